@@ -1,0 +1,35 @@
+// The refusal of document 01's table, by value: its number, its side and its place.
+pub struct Refusal {
+    pub number: u32,
+    pub side: u32,
+    pub place: usize,
+}
+
+impl Refusal {
+    // The numbers of document 01's table.
+    pub const CUT: u32 = 1;
+
+    pub const LONG: u32 = 2;
+
+    pub const OVER: u32 = 3;
+
+    pub const COUNT: u32 = 4;
+
+    pub const UNKNOWN: u32 = 5;
+
+    pub const BROKEN: u32 = 6;
+
+    pub const AFTER: u32 = 7;
+
+    pub const ORDER: u32 = 8;
+
+    pub const ROOM: u32 = 9;
+
+    pub const NO_FACT: u32 = 10;
+    // Its sides.
+    pub const RULES: u32 = 0;
+
+    pub const BUNDLE: u32 = 1;
+
+    pub const CALL: u32 = 2;
+}
