@@ -1,0 +1,4 @@
+pub mod Kinds
+pub mod Codes
+pub mod Limits
+pub mod Told

@@ -1,0 +1,15 @@
+// The kinds of document 01 as types by value, with their limits, constructors and codes.
+mod fact;
+mod limits;
+mod nodes;
+mod rule;
+
+pub use fact::Fact;
+pub use limits::Limits;
+pub use limits::limits_of_kinds;
+pub use nodes::BasicConcept;
+pub use nodes::BasicRole;
+pub use nodes::Concept;
+pub use nodes::Declared;
+pub use nodes::Role;
+pub use rule::Rule;
