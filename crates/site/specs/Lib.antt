@@ -1,4 +1,6 @@
-pub mod Kinds
 pub mod Codes
+pub mod Items
+pub mod Kinds
 pub mod Limits
+pub mod Lists
 pub mod Told

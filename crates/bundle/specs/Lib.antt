@@ -1,0 +1,3 @@
+pub mod Bundle
+pub mod Lawful
+pub mod Records

@@ -1,0 +1,4 @@
+// Reading and writing a bundle of facts.
+mod facts;
+
+pub use facts::Facts;

@@ -1,0 +1,23 @@
+-- What an accepted rule file's rules are: within the limits, of declared codes, and with no functional role on the right of an inclusion.
+use Prim.Native.Nat.{ℕ, _≤_}
+use mathlib.Core.Path.{_≡_}
+use mathlib.Core.Bool.{Bool, true, _&&_}
+use mathlib.Core.List.{List·Memᴰ}
+use Rattle.site.specs.Kinds.{BasicRole, Rule, Site, roleIn, declared, declaredRole}
+use Rattle.site.specs.Kinds.Node.{concept}
+use Rattle.site.specs.Kinds.Rule.{included, disjoint, roleIncluded, roleDisjoint, functional}
+use Rattle.site.specs.Limits.{mostConcepts, mostRoles}
+
+abbrev pub ruleDeclared : Site → Rule → Bool
+ruleDeclared s (included b c) = declared s (concept b) && declared s (concept c)
+ruleDeclared s (disjoint b c) = declared s (concept b) && declared s (concept c)
+ruleDeclared s (roleIncluded p q) = declaredRole s p && declaredRole s q
+ruleDeclared s (roleDisjoint p q) = declaredRole s p && declaredRole s q
+ruleDeclared s (functional q) = declaredRole s q
+
+pub record Lawful (s : Site) : Type 0 where
+  pub concepts-within : s .concepts ≤ mostConcepts
+  pub roles-within : s .roles ≤ mostRoles
+  pub known : (r : Rule) → List·Memᴰ r (s .rules) → ruleDeclared s r ≡ true
+  -- "If q or its inverse is functional, neither may stand on the right of a kind 2 rule"
+  pub unbroken : (q p r : BasicRole) → List·Memᴰ (functional q) (s .rules) → List·Memᴰ (roleIncluded p r) (s .rules) → roleIn r ≡ roleIn q → ⊥

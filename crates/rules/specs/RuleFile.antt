@@ -1,0 +1,83 @@
+-- The rule file: its rules, or its refusal, as a function of its bytes.
+use Prim.Native.Nat.{ℕ, zero, suc}
+use mathlib.Core.Bool.{Bool, true, false, cond}
+use mathlib.Core.List.{List, [], _∷_}
+use lib.Dec.{leb, eqb}
+use Rattle.number.specs.Answer.{Answer, Read, refusal, _then_, over}
+use Rattle.number.specs.Answer.Answer.{gives, refuses}
+use Rattle.site.specs.Kinds.{BasicRole, Rule, Site, roleIn}
+use Rattle.site.specs.Kinds.Rule.{included, disjoint, roleIncluded, roleDisjoint, functional}
+use Rattle.site.specs.Codes.{conceptDeclared, roleDeclared, ruleOf}
+use Rattle.site.specs.Limits.{mostConcepts, mostRoles, mostRules, lastKind}
+use Rattle.site.specs.Lists.{any}
+use Rattle.site.specs.Items.{countAt, codeAt, endAt, onward}
+use Rattle.rules.specs.declared.head.Head.{Head}
+
+-- "Rule file: number of concepts (0 to 64), of roles (0 to 32), of rules (0 to 512), then the rules."
+unfoldable pub headOf : List ℕ → Answer Head
+headOf s =
+    countAt s 0 mostConcepts 0 then λ concepts.
+    countAt s (concepts .next) mostRoles 0 then λ roles.
+    countAt s (roles .next) mostRules 0 then λ rules.
+    gives (record { concepts = concepts .value; roles = roles .value; rules = rules .value; start = rules .next })
+
+-- the codes of kinds 0 and 1 are basic concepts, those of kinds 2 to 4 basic roles
+unfoldable pub codeDeclared : Head → ℕ → ℕ → Bool
+codeDeclared h kind code = cond (leb kind 1) (conceptDeclared (h .concepts) (h .roles) code) (roleDeclared (h .roles) code)
+
+-- "A rule is its kind, then its codes": two, and one for kind 4
+unfoldable pub ruleAt : Head → List ℕ → ℕ → Answer (Read Rule)
+ruleAt h s at =
+    codeAt s at (λ kind. leb kind lastKind) 0 then λ kind.
+    codeAt s (kind .next) (codeDeclared h (kind .value)) 0 then λ x.
+    cond (eqb (kind .value) lastKind)
+    (gives (record { value = ruleOf (kind .value) (x .value) 0; next = x .next }))
+    (codeAt s (x .next) (codeDeclared h (kind .value)) 0 then λ y.
+    gives (record { value = ruleOf (kind .value) (x .value) (y .value); next = y .next }))
+
+-- so many rules from a place on: the place after them
+unfoldable pub rulesFrom : Head → List ℕ → ℕ → ℕ → Answer ℕ
+rulesFrom h s zero at = gives at
+rulesFrom h s (suc n) at = ruleAt h s at then λ r. rulesFrom h s n (r .next)
+
+-- so many rules from a place on, as far as they can be read
+unfoldable pub rulesIn : Head → List ℕ → ℕ → ℕ → List Rule
+rulesIn h s zero at = []
+rulesIn h s (suc n) at = onward (ruleAt h s at) (λ r. r .value ∷ rulesIn h s n (r .next))
+
+-- "If q or its inverse is functional, neither may stand on the right of a kind 2 rule, its own inclusion in itself counted"
+abbrev pub onRight : BasicRole → Rule → Bool
+onRight q (roleIncluded p r) = eqb (roleIn r) (roleIn q)
+onRight q (included b c) = false
+onRight q (disjoint b c) = false
+onRight q (roleDisjoint p r) = false
+onRight q (functional p) = false
+
+abbrev pub broken : List Rule → Rule → Bool
+broken rules (functional q) = any (onRight q) rules
+broken rules (included b c) = false
+broken rules (disjoint b c) = false
+broken rules (roleIncluded p q) = false
+broken rules (roleDisjoint p q) = false
+
+-- refusal 6: "a functional role stands on the right of a kind 2 rule", at "the kind of the first functional rule so broken"
+unfoldable pub unbroken : Head → List ℕ → List Rule → ℕ → ℕ → Answer ℕ
+unbroken h s rules zero at = gives at
+unbroken h s rules (suc n) at =
+    ruleAt h s at then λ r. cond (broken rules (r .value)) (refuses (refusal 6 0 at)) (unbroken h s rules n (r .next))
+
+-- the whole reading: "After the last item 7, then 6."
+unfoldable pub checkRules : List ℕ → Answer Head
+checkRules s =
+    headOf s then λ h.
+    rulesFrom h s (h .rules) (h .start) then λ end.
+    endAt s end 0 then λ _.
+    unbroken h s (rulesIn h s (h .rules) (h .start)) (h .rules) (h .start) then λ _.
+    gives h
+
+-- the rules that a file's head and bytes say
+unfoldable pub siteOf : List ℕ → Head → Site
+siteOf s h = record { concepts = h .concepts; roles = h .roles; rules = rulesIn h s (h .rules) (h .start) }
+
+unfoldable pub readRules : List ℕ → Answer Site
+readRules s = over (siteOf s) (checkRules s)

@@ -1,0 +1,4 @@
+// Reading a rule file.
+mod head;
+
+pub use head::Head;
