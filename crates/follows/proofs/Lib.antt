@@ -6,3 +6,4 @@ pub mod Arrows
 pub mod Apart
 pub mod Decided
 pub mod Words
+pub mod Passes

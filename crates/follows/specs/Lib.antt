@@ -1,5 +1,7 @@
 pub mod Bits
 pub mod Closed
 pub mod Decides
+pub mod Listed
+pub mod Passes
 pub mod Steps
 pub mod Tables
