@@ -7,3 +7,4 @@ pub mod Apart
 pub mod Decided
 pub mod Words
 pub mod Passes
+pub mod Lowers
