@@ -1,1 +1,2 @@
+pub mod OfItems
 pub mod OfKinds
