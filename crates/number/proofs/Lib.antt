@@ -1,2 +1,4 @@
+pub mod Cases
+pub mod Laws
 pub mod Reading
 pub mod Writing
