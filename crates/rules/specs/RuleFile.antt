@@ -66,14 +66,19 @@ unbroken h s rules zero at = gives at
 unbroken h s rules (suc n) at =
     ruleAt h s at then λ r. cond (broken rules (r .value)) (refuses (refusal 6 0 at)) (unbroken h s rules n (r .next))
 
--- the whole reading: "After the last item 7, then 6."
+-- "After the last item 7, then 6."
+unfoldable pub afterRules : List ℕ → Head → ℕ → Answer Head
+afterRules s h end =
+    endAt s end 0 then λ _.
+    unbroken h s (rulesIn h s (h .rules) (h .start)) (h .rules) (h .start) then λ _.
+    gives h
+
+-- the whole reading
 unfoldable pub checkRules : List ℕ → Answer Head
 checkRules s =
     headOf s then λ h.
     rulesFrom h s (h .rules) (h .start) then λ end.
-    endAt s end 0 then λ _.
-    unbroken h s (rulesIn h s (h .rules) (h .start)) (h .rules) (h .start) then λ _.
-    gives h
+    afterRules s h end
 
 -- the rules that a file's head and bytes say
 unfoldable pub siteOf : List ℕ → Head → Site

@@ -1,0 +1,3 @@
+pub mod Accepted
+pub mod Checking
+pub mod Reading
