@@ -1,0 +1,7 @@
+pub mod Rows
+pub mod Closing
+pub mod Declares
+pub mod Laws
+pub mod Arrows
+pub mod Apart
+pub mod Decided
