@@ -1,0 +1,3 @@
+pub mod OfLists
+pub mod OfNodes
+pub mod OfTypes
