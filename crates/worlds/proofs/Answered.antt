@@ -1,10 +1,10 @@
 -- A question is answered yes exactly if the kept facts tell it: then it holds in every world of them, by soundness; and what holds in
 -- their canonical world they tell.
-use Prim.Native.Nat.{ℕ, _+_, _<_}
-use mathlib.Core.Path.{_≡_, refl, sym, ap, _∙_, subst}
-use mathlib.Core.Bool.{Bool, true, false, cond, not, _&&_}
-use mathlib.Core.Logic.{_↔_, _⊎_, inl, inr}
-use mathlib.Core.List.{List, [], _∷_, List·Memᴰ, List·Memᴰ·head, List·Memᴰ·tail}
+use Prim.Native.Nat.{ℕ, _<_}
+use mathlib.Core.Path.{refl, subst}
+use mathlib.Core.Bool.{_&&_}
+use mathlib.Core.Logic.{_↔_}
+use mathlib.Core.List.{List}
 use lib.ListN.{length}
 use lib.Dec.{eqb}
 use borrow.Author.Tests.{eqb-true, eq-eqb}
@@ -15,9 +15,9 @@ use Rattle.site.specs.Kinds.Node.{concept, role}
 use Rattle.rules.specs.Lawful.{Lawful}
 use Rattle.follows.specs.Tables.{Follows}
 use Rattle.follows.specs.Decides.{Decides}
-use Rattle.clean.specs.Types.{Typ, typ, typesOf}
+use Rattle.clean.specs.Types.{typ, typesOf}
 use Rattle.clean.specs.Marks.{samePlace, supports, marked, kept, support}
-use Rattle.worlds.specs.Worlds.{World, Is, Joins, WorldOf, Always}
+use Rattle.worlds.specs.Worlds.{Is, Joins, WorldOf, Always}
 use Rattle.worlds.proofs.OfLists.{any-some, some-any, some-keep, first-some, some-first, and-left, and-right, and-both}
 use Rattle.worlds.proofs.OfTypes.{TypeOf, listed-of, of-listed}
 use Rattle.worlds.proofs.Sound.{At, included-holds, type-shown, shown-at}

@@ -1,27 +1,24 @@
 -- The canonical world of facts that do not contradict each other: the chase of what they tell, where a partner that is there already
 -- blocks. It is a world of the rules and the facts, and of named things it says no more than the facts tell.
-use Prim.Native.Nat.{ℕ, _-_, _≤_}
-use mathlib.Core.Path.{_≡_, refl, sym, ap, _∙_, subst, subst⁻¹}
+use Prim.Native.Nat.{ℕ}
+use mathlib.Core.Path.{_≡_, refl, ap, subst}
 use mathlib.Core.Bool.{Bool, true, false, _&&_}
-use mathlib.Core.List.{List, [], _∷_, List·Memᴰ}
+use mathlib.Core.List.{List, List·Memᴰ}
 use lib.Dec.{eqb}
 use borrow.Author.Tests.{eqb-true, eq-eqb}
 use Rattle.site.specs.declared.fact.Fact.{Fact}
-use Rattle.site.specs.Kinds.{BasicRole, BasicConcept, Node, Site, turned, ofConcept}
-use Rattle.site.specs.Kinds.BasicConcept.{some}
+use Rattle.site.specs.Kinds.{BasicRole, BasicConcept, Site, turned, ofConcept}
 use Rattle.site.specs.Kinds.Node.{concept, role}
 use Rattle.site.specs.Lists.{any}
-use Rattle.site.specs.Limits.{mostThing}
 use Rattle.rules.specs.Lawful.{Lawful}
-use Rattle.follows.specs.Steps.{Included}
 use Rattle.follows.specs.Tables.{Follows}
 use Rattle.follows.specs.Decides.{Decides}
-use Rattle.clean.specs.Types.{Typ, typ, typesOf}
+use Rattle.clean.specs.Types.{Typ, typesOf}
 use Rattle.worlds.specs.Worlds.{World, Names, Joins, Is, Says, Holds, WorldOf}
 use Rattle.worlds.proofs.OfLists.{any-some, some-any, and-left, and-right, and-both}
 use Rattle.worlds.proofs.OfTypes.{TypeOf, listed-of, of-listed}
 use Rattle.worlds.proofs.OfTypes.TypeOf.{is-a, joins}
-use Rattle.worlds.proofs.Chase.{Element, Has, Link, Blocks, Partnered, chased, joins-link, is-has, obeys-all}
+use Rattle.worlds.proofs.Chase.{Element, Link, Blocks, Partnered, chased, joins-link, is-has, obeys-all}
 use Rattle.worlds.proofs.Chase.Element.{device, child}
 use Rattle.worlds.proofs.Chase.Link.{told, up}
 use Rattle.worlds.proofs.Told.{Told, Peaceful, Spoken, type-told, told-closed, told-harmless}

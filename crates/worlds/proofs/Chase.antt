@@ -1,21 +1,21 @@
 -- The chase: from what is told of the named things, add a child for each partner that is demanded and not blocked. It is a world of every
 -- inclusion and disjointness, and of the functional roles where a partner that is there already blocks.
-use Prim.Native.Nat.{ℕ, _≤_}
-use mathlib.Core.Path.{_≡_, refl, sym, ap, _∙_, subst, subst⁻¹}
+use Prim.Native.Nat.{ℕ}
+use mathlib.Core.Path.{_≡_, refl, sym, ap, _∙_, subst}
 use mathlib.Core.Bool.{Bool, true, false}
 use mathlib.Core.Logic.{_⊎_, inl, inr}
-use mathlib.Core.List.{List, List·Memᴰ}
+use mathlib.Core.List.{List·Memᴰ}
 use Rattle.site.specs.Kinds.{BasicRole, BasicConcept, Node, Rule, Site, turned, declared}
 use Rattle.site.specs.Kinds.BasicRole.{forward, inverse}
 use Rattle.site.specs.Kinds.BasicConcept.{named, some}
 use Rattle.site.specs.Kinds.Node.{concept, role}
 use Rattle.site.specs.Kinds.Rule.{included, disjoint, roleIncluded, roleDisjoint, functional}
 use Rattle.rules.specs.Lawful.{Lawful}
-use Rattle.follows.specs.Steps.{SaysIncluded, SaysExcluded, Included, Excluded, OneOf}
+use Rattle.follows.specs.Steps.{Included, Excluded, OneOf}
 use Rattle.follows.specs.Steps.SaysIncluded.{kind-0, kind-2}
 use Rattle.follows.specs.Steps.SaysExcluded.{kind-1, kind-3}
 use Rattle.follows.specs.Steps.Included.{step-1, step-2, step-3, step-4}
-use Rattle.follows.specs.Steps.Excluded.{step-5, step-6, step-7, step-8}
+use Rattle.follows.specs.Steps.Excluded.{step-5, step-6, step-8}
 use Rattle.worlds.specs.Worlds.{World, Joins, Is, Obeys}
 use Rattle.worlds.proofs.OfLists.{true-not-false, either}
 use Rattle.worlds.proofs.OfNodes.{turn, having, turned-turned, declared-right, only-itself, role-is}

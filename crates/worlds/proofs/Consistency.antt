@@ -1,10 +1,10 @@
 -- Facts are consistent exactly if no two of them contradict each other: by soundness, and by the canonical world. So it is decided, by
 -- the tests of `clean`, whether facts are consistent; and fewer facts stay consistent.
 use Prim.Native.Nat.{ℕ}
-use mathlib.Core.Path.{_≡_, refl, sym, ap, _∙_, subst}
-use mathlib.Core.Bool.{Bool, true, false, cond, not, _&&_}
-use mathlib.Core.Logic.{_↔_, _⊎_, inl, inr}
-use mathlib.Core.List.{List, [], _∷_, List·Memᴰ, List·Memᴰ·head, List·Memᴰ·tail}
+use mathlib.Core.Path.{_≡_}
+use mathlib.Core.Bool.{true, false}
+use mathlib.Core.Logic.{_⊎_, inl, inr}
+use mathlib.Core.List.{List, List·Memᴰ}
 use Rattle.site.specs.declared.fact.Fact.{Fact}
 use Rattle.site.specs.Kinds.{Site}
 use Rattle.site.specs.Lists.{any}
@@ -12,7 +12,7 @@ use Rattle.rules.specs.Lawful.{Lawful}
 use Rattle.follows.specs.Tables.{Follows}
 use Rattle.follows.specs.Decides.{Decides}
 use Rattle.clean.specs.Marks.{contradict}
-use Rattle.worlds.specs.Worlds.{WorldOf, Consistent}
+use Rattle.worlds.specs.Worlds.{Consistent}
 use Rattle.worlds.proofs.OfLists.{Within, any-some, some-any, either, true-not-false}
 use Rattle.worlds.proofs.OfTypes.{contradict-against, against-contradict}
 use Rattle.worlds.proofs.Sound.{Near, against-never}

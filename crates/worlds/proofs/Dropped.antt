@@ -1,7 +1,7 @@
 -- A fact is dropped exactly if it spoils a consistent set: none if it is alone, a fact that it clashes with if it is disputed. So dropped
 -- is left out by some maximal consistent set; and the kept facts, of which no two contradict each other, are consistent.
 use Prim.Native.Nat.{ℕ}
-use mathlib.Core.Path.{_≡_, refl, sym, ap, _∙_, subst}
+use mathlib.Core.Path.{_≡_, refl, sym, ap, _∙_}
 use mathlib.Core.Bool.{Bool, true, false, cond, not, _&&_}
 use mathlib.Core.Logic.{_↔_, _⊎_, inl, inr}
 use mathlib.Core.List.{List, [], _∷_, List·Memᴰ, List·Memᴰ·head, List·Memᴰ·tail}
@@ -14,11 +14,11 @@ use Rattle.rules.specs.Lawful.{Lawful}
 use Rattle.follows.specs.Tables.{Follows}
 use Rattle.follows.specs.Decides.{Decides}
 use Rattle.clean.specs.Marks.{alone, clash, mark, marked, kept}
-use Rattle.worlds.specs.Worlds.{Consistent, Maximal, LeftOut}
-use Rattle.worlds.proofs.OfLists.{Within, within-cons, Passes, any-some, some-any, keep-some, and-left, and-right, and-both, either, is-false, true-not-false}
+use Rattle.worlds.specs.Worlds.{Consistent, LeftOut}
+use Rattle.worlds.proofs.OfLists.{Within, within-cons, within-nil, Passes, any-some, some-any, keep-some, and-left, and-right, and-both, either, is-false, true-not-false}
 use Rattle.worlds.proofs.OfTypes.{Against, contradict-against, against-contradict, alone-against, against-alone}
 use Rattle.worlds.proofs.Told.{Peaceful, peaceful-nil, peaceful-cons}
-use Rattle.worlds.proofs.Repairs.{Largest, Spoils, spoils-left-out, left-out-spoils}
+use Rattle.worlds.proofs.Repairs.{Spoils, spoils-left-out, left-out-spoils}
 use Rattle.worlds.proofs.Consistency.{AllFit, consistent-peaceful, peaceful-consistent, fewer-consistent, decide-consistent}
 
 module _ (ρ : ℕ → ℕ) (s : Site) (t : Follows) (law : Lawful s) (d : Decides s t) (facts : List Fact) (fit : AllFit s facts) where
@@ -55,24 +55,21 @@ module _ (ρ : ℕ → ℕ) (s : Site) (t : Follows) (law : Lawful s) (d : Decid
   unfolding clash
   dropped-spoils f m h = go (either (alone ρ t f)) (either (any (clash ρ t f) facts))
     where
-      nothing : Within [] facts
-      nothing x k = elim k [ ]
-
       alone-spoils : alone ρ t f ≡ true → Spoils (Consistent ρ s) facts f
       alone-spoils e =
           record {
             set = [];
-            within = nothing;
-            good = peaceful-consistent ρ s t law d facts fit [] nothing peaceful-nil;
+            within = within-nil;
+            good = peaceful-consistent ρ s t law d facts fit [] within-nil peaceful-nil;
             spoilt = λ c.
-                consistent-peaceful ρ s t law d facts fit (f ∷ []) (within-cons m nothing) c f f (List·Memᴰ·head refl) (List·Memᴰ·head refl)
+                consistent-peaceful ρ s t law d facts fit (f ∷ []) (within-cons m within-nil) c f f (List·Memᴰ·head refl) (List·Memᴰ·head refl)
                 (alone-against ρ s t d f e);
           }
 
       clash-spoils : Passes (clash ρ t f) facts → Spoils (Consistent ρ s) facts f
       clash-spoils k =
           let g = k .element in
-          let only-g : Within (g ∷ []) facts = within-cons (k .member) nothing in
+          let only-g : Within (g ∷ []) facts = within-cons (k .member) within-nil in
           let quiet = and-left (not (alone ρ t f) && not (alone ρ t g)) _ (k .passes) in
           let not-g = not-true _ (and-right (not (alone ρ t f)) _ quiet) in
           record {

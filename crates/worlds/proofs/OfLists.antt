@@ -1,8 +1,8 @@
 -- What the plain tests on lists say: some element passes, the elements that pass, and the number of the first that passes.
-use Prim.Native.Nat.{ℕ, zero, suc, _+_, _≤_, _<_}
-use mathlib.Core.Path.{_≡_, refl, sym, ap, _∙_, subst, subst⁻¹}
-use mathlib.Core.Bool.{Bool, true, false, cond, not, _&&_, _||_}
-use mathlib.Core.Logic.{_↔_, _⊎_, inl, inr}
+use Prim.Native.Nat.{ℕ, _+_, _<_}
+use mathlib.Core.Path.{_≡_, refl, subst, subst⁻¹}
+use mathlib.Core.Bool.{Bool, true, false, cond, _&&_, _||_}
+use mathlib.Core.Logic.{_⊎_, inl, inr}
 use mathlib.Core.List.{List, [], _∷_, List·Memᴰ, List·Memᴰ·head, List·Memᴰ·tail}
 use lib.ListN.{length}
 use native.Mathlib.Omega.{arith}
@@ -10,10 +10,6 @@ use Rattle.site.specs.Lists.{any, keep, first}
 
 pub true-not-false : {b : Bool} → b ≡ true → b ≡ false → ⊥
 true-not-false p q = let z : _≡_ {A = ℕ} 0 1 = cc in omega arith
-
-pub not-not : {b : Bool} → (b ≡ false → ⊥) → b ≡ true
-not-not {b = true} h = refl
-not-not {b = false} h = absurd (h refl)
 
 pub is-false : {b : Bool} → (b ≡ true → ⊥) → b ≡ false
 is-false {b = true} h = absurd (h refl)

@@ -1,21 +1,20 @@
 -- Nodes: telling them apart, and what every inclusion keeps: it is among declared nodes, it may be turned round or read of the partner's
 -- end, and a functional role includes nothing but itself.
 use Prim.Native.Nat.{ℕ}
-use mathlib.Core.Path.{_≡_, refl, sym, ap, _∙_, subst, subst⁻¹}
-use mathlib.Core.Bool.{Bool, true, false}
+use mathlib.Core.Path.{_≡_, refl, sym, ap, _∙_, subst⁻¹}
+use mathlib.Core.Bool.{true}
 use mathlib.Core.List.{List·Memᴰ}
-use native.Mathlib.Omega.{arith}
 use borrow.Author.Tests.{eqb-true, eq-eqb}
-use Rattle.site.specs.Kinds.{BasicRole, BasicConcept, Node, Rule, Site, turned, roleIn, declared, declaredRole, sameRole, sameNode}
+use Rattle.site.specs.Kinds.{BasicRole, Node, Site, turned, roleIn, declared, declaredRole, sameRole, sameNode}
 use Rattle.site.specs.Kinds.BasicRole.{forward, inverse}
 use Rattle.site.specs.Kinds.BasicConcept.{named, some}
 use Rattle.site.specs.Kinds.Node.{concept, role}
-use Rattle.site.specs.Kinds.Rule.{included, disjoint, roleIncluded, roleDisjoint, functional}
-use Rattle.rules.specs.Lawful.{Lawful, ruleDeclared}
-use Rattle.follows.specs.Steps.{SaysIncluded, SaysExcluded, Included}
+use Rattle.site.specs.Kinds.Rule.{included, roleIncluded, functional}
+use Rattle.rules.specs.Lawful.{Lawful}
+use Rattle.follows.specs.Steps.{Included}
 use Rattle.follows.specs.Steps.SaysIncluded.{kind-0, kind-2}
 use Rattle.follows.specs.Steps.Included.{by-rule, step-1, step-2, step-3, step-4}
-use Rattle.worlds.proofs.OfLists.{true-not-false, and-left, and-right}
+use Rattle.worlds.proofs.OfLists.{true-not-false, and-right}
 
 pub turned-turned : (q : BasicRole) → turned (turned q) ≡ q
 turned-turned (forward j) = refl

@@ -1,15 +1,14 @@
 -- The types of a fact as a family, and what it means that two facts contradict each other: types at one place that exclude each other, or a
 -- functional role that joins one thing to two. A fact is alone exactly if it contradicts itself: a single fact splits no functional role.
-use Prim.Native.Nat.{ℕ, _-_, _≤_}
-use mathlib.Core.Path.{_≡_, refl, sym, ap, _∙_, subst, subst⁻¹, subst₂}
-use mathlib.Core.Bool.{Bool, true, false, cond, not, _&&_, _||_}
-use mathlib.Core.Logic.{_↔_, _⊎_, inl, inr}
-use mathlib.Core.List.{List, [], _∷_, List·Memᴰ, List·Memᴰ·head, List·Memᴰ·tail}
+use Prim.Native.Nat.{ℕ, _-_}
+use mathlib.Core.Path.{_≡_, refl, sym, ap, _∙_, subst⁻¹}
+use mathlib.Core.Bool.{Bool, true, false, cond, not, _&&_}
+use mathlib.Core.Logic.{_⊎_, inl, inr}
+use mathlib.Core.List.{List·Memᴰ, List·Memᴰ·head, List·Memᴰ·tail}
 use lib.Dec.{eqb}
 use borrow.Author.Tests.{eqb-true, eqb-false, eq-eqb, ne-eqb, not-true}
-use native.Mathlib.Omega.{arith}
 use Rattle.site.specs.declared.fact.Fact.{Fact}
-use Rattle.site.specs.Kinds.{BasicRole, BasicConcept, Node, Rule, Site, ofConcept, sameNode}
+use Rattle.site.specs.Kinds.{BasicRole, Node, Site, ofConcept, sameNode}
 use Rattle.site.specs.Kinds.BasicRole.{forward, inverse}
 use Rattle.site.specs.Kinds.BasicConcept.{named, some}
 use Rattle.site.specs.Kinds.Node.{concept, role}
@@ -21,7 +20,7 @@ use Rattle.follows.specs.Tables.{Follows}
 use Rattle.follows.specs.Decides.{Decides}
 use Rattle.clean.specs.Types.{Typ, typ, conceptTypes, roleTypes, typesOf}
 use Rattle.clean.specs.Marks.{samePlace, jar, functionalNode, split, meet, alone, contradict}
-use Rattle.worlds.proofs.OfLists.{Passes, any-some, some-any, and-left, and-right, and-both, or-either, or-left, or-right, true-not-false}
+use Rattle.worlds.proofs.OfLists.{any-some, some-any, and-left, and-right, and-both, or-either, or-left, or-right, true-not-false}
 use Rattle.worlds.proofs.OfNodes.{turn, having, sameNode-is, sameRole-self}
 
 -- a node at an ordered pair is a type of a fact

@@ -1,8 +1,8 @@
 -- Maximal good sets, over any property of lists that is decided within the facts and passes to what holds fewer: taking one fact after the
 -- other, a good set grows to a maximal one. So a fact is left out by a maximal set exactly if it spoils some good set.
-use mathlib.Core.Path.{_≡_, refl, subst}
+use mathlib.Core.Path.{refl, subst}
 use mathlib.Core.List.{List, [], _∷_, List·Memᴰ, List·Memᴰ·head, List·Memᴰ·tail}
-use Rattle.worlds.proofs.OfLists.{Within, within-cons, within-both, within-nil}
+use Rattle.worlds.proofs.OfLists.{Within, within-cons, within-both}
 
 module _ {A : Type 0} (Good : List A → Type 1) (facts : List A) where
   -- a maximal good set of the facts

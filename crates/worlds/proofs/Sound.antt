@@ -1,22 +1,21 @@
 -- Soundness: in a world that obeys the rules, what is included is included and what is excluded is disjoint; step 8 by moving along the
 -- role. So a fact's types hold where the fact holds, and facts that contradict each other hold together in no world.
-use Prim.Native.Nat.{ℕ, _-_, _≤_}
-use mathlib.Core.Path.{_≡_, refl, sym, ap, _∙_, subst, subst⁻¹}
-use mathlib.Core.Bool.{Bool, true, false}
-use mathlib.Core.List.{List, List·Memᴰ}
+use Prim.Native.Nat.{ℕ, _≤_}
+use mathlib.Core.Path.{_≡_, refl, sym, _∙_, subst}
+use mathlib.Core.Bool.{Bool}
+use mathlib.Core.List.{List·Memᴰ}
 use Rattle.site.specs.declared.fact.Fact.{Fact}
-use Rattle.site.specs.Kinds.{BasicRole, BasicConcept, Node, Rule, Site, turned, ofConcept}
+use Rattle.site.specs.Kinds.{BasicRole, Node, Rule, Site, turned}
 use Rattle.site.specs.Kinds.BasicRole.{forward, inverse}
-use Rattle.site.specs.Kinds.BasicConcept.{named, some}
 use Rattle.site.specs.Kinds.Node.{concept, role}
 use Rattle.site.specs.Kinds.Rule.{included, disjoint, roleIncluded, roleDisjoint, functional}
 use Rattle.site.specs.Limits.{mostThing}
-use Rattle.follows.specs.Steps.{SaysIncluded, SaysExcluded, Included, Excluded, OneOf}
+use Rattle.follows.specs.Steps.{Included, Excluded, OneOf}
 use Rattle.follows.specs.Steps.SaysIncluded.{kind-0, kind-2}
 use Rattle.follows.specs.Steps.SaysExcluded.{kind-1, kind-3}
 use Rattle.follows.specs.Steps.Included.{step-1, step-2, step-3, step-4}
 use Rattle.follows.specs.Steps.Excluded.{step-5, step-6, step-7, step-8}
-use Rattle.worlds.specs.Worlds.{World, Names, Joins, Is, Obeys, Says, Holds, WorldOf}
+use Rattle.worlds.specs.Worlds.{World, Names, Joins, Is, Obeys, Says, Holds}
 use Rattle.worlds.proofs.OfTypes.{TypeOf, Against}
 use Rattle.worlds.proofs.OfTypes.TypeOf.{is-a, has, had, joins, joined}
 use Rattle.worlds.proofs.OfTypes.Against.{jars, splits}
@@ -65,7 +64,7 @@ module _ (s : Site) (w : World) (obeys : (r : Rule) → List·Memᴰ r (s .rules
       let j = some-joined w other u v h in
       unjoined w one (λ a b z. excluded-never e a b z z) (j .0) (j .1) (j .2)
 
--- a fact that rules of this site can speak of: about things within the limit
+-- a fact about things within the limit
 pub record Near (f : Fact) : Type 0 where
   pub subject-within : f .subject ≤ mostThing
   pub object-within : f .object ≤ mostThing

@@ -1,14 +1,14 @@
 -- What a list of facts tells of named things: every node that a type of a fact is included in. It is closed as the chase needs it, and
 -- harmless if no two of the facts contradict each other.
-use Prim.Native.Nat.{ℕ, _-_}
-use mathlib.Core.Path.{_≡_, refl, sym, ap, _∙_, subst, subst⁻¹}
+use Prim.Native.Nat.{ℕ}
+use mathlib.Core.Path.{_≡_, refl, subst}
 use mathlib.Core.Bool.{Bool, true, false, cond}
 use mathlib.Core.Logic.{_⊎_, inl, inr}
 use mathlib.Core.List.{List, [], _∷_, List·Memᴰ, List·Memᴰ·head, List·Memᴰ·tail}
 use lib.Dec.{eqb}
 use borrow.Author.Tests.{eqb-true, eqb-false}
 use Rattle.site.specs.declared.fact.Fact.{Fact}
-use Rattle.site.specs.Kinds.{BasicRole, Node, Site, declared, ofConcept}
+use Rattle.site.specs.Kinds.{BasicRole, Node, Site, declared}
 use Rattle.site.specs.Kinds.Node.{role}
 use Rattle.site.specs.Kinds.Rule.{functional}
 use Rattle.site.specs.Codes.{predicateDeclared}
@@ -16,7 +16,7 @@ use Rattle.rules.specs.Lawful.{Lawful}
 use Rattle.follows.specs.Steps.{Included, Excluded}
 use Rattle.follows.specs.Steps.Included.{step-1, step-2}
 use Rattle.follows.specs.Steps.Excluded.{step-5, step-6}
-use Rattle.worlds.proofs.OfLists.{either}
+use Rattle.worlds.proofs.OfLists.{either, true-not-false}
 use Rattle.worlds.proofs.OfNodes.{declared-right, included-turn, included-having, only-itself, turn, having}
 use Rattle.worlds.proofs.OfTypes.{TypeOf, of-turn, of-having, Against, against-turned}
 use Rattle.worlds.proofs.OfTypes.TypeOf.{is-a, has, had, joins, joined}
@@ -57,10 +57,10 @@ Spoken s f = predicateDeclared (s .concepts) (s .roles) (f .predicate) ≡ true
 
 chosen : (b x y : Bool) → cond b x y ≡ true → b ≡ true → x ≡ true
 chosen true x y h e = h
-chosen false x y h e = absurd (mathlib.Core.Bool.false≢true e)
+chosen false x y h e = absurd (true-not-false e refl)
 
 other : (b x y : Bool) → cond b x y ≡ true → b ≡ false → y ≡ true
-other true x y h e = absurd (mathlib.Core.Bool.true≢false e)
+other true x y h e = absurd (true-not-false refl e)
 other false x y h e = h
 
 pub type-declared : {ρ : ℕ → ℕ} (s : Site) {f : Fact} {x : Node} {a b : ℕ} → Spoken s f → TypeOf ρ f x a b → declared s x ≡ true

@@ -1,10 +1,10 @@
 -- Demand 3 for lawful rules and facts, given that the tables decide what follows: the three laws, over any map of device numbers and any
 -- tests that decide, and then where each device number stands for itself.
-use Prim.Native.Nat.{ℕ, _≤_, _<_}
-use mathlib.Core.Path.{_≡_, refl, sym, subst, subst₂}
-use mathlib.Core.Bool.{Bool, true}
+use Prim.Native.Nat.{ℕ, _<_}
+use mathlib.Core.Path.{_≡_, sym, subst, subst₂}
+use mathlib.Core.Bool.{true}
 use mathlib.Core.Logic.{_↔_}
-use mathlib.Core.List.{List, [], _∷_, List·Memᴰ, List·Memᴰ·head, List·Memᴰ·tail}
+use mathlib.Core.List.{List, List·Memᴰ, List·Memᴰ·head, List·Memᴰ·tail}
 use lib.ListN.{length}
 use Rattle.site.specs.declared.fact.Fact.{Fact}
 use Rattle.site.specs.Kinds.{BasicRole, BasicConcept, Site}
@@ -12,7 +12,7 @@ use Rattle.site.specs.Kinds.Node.{concept, role}
 use Rattle.site.specs.Codes.{conceptOf, roleOf, predicateDeclared}
 use Rattle.rules.specs.declared.head.Head.{Head}
 use Rattle.rules.specs.Lawful.{Lawful}
-use Rattle.bundle.specs.Bundle.{Last, predicateKnown}
+use Rattle.bundle.specs.Bundle.{Last}
 use Rattle.bundle.specs.Lawful.{LawfulFact, LawfulFrom, LawfulFacts}
 use Rattle.bundle.specs.Lawful.LawfulFrom.{done, next}
 use Rattle.follows.specs.Tables.{Follows, followsOf}
@@ -21,7 +21,6 @@ use Rattle.clean.specs.Types.{itself, typ}
 use Rattle.clean.specs.Marks.{mark, kept, support}
 use Rattle.worlds.specs.Worlds.{Is, Joins, Consistent, LeftOut, Always}
 use Rattle.worlds.specs.Demand3.{WorldsDecide}
-use Rattle.worlds.proofs.Told.{Spoken}
 use Rattle.worlds.proofs.Consistency.{Fit, AllFit}
 use Rattle.worlds.proofs.Dropped.{dropped-left-out, kept-consistent}
 use Rattle.worlds.proofs.Answered.{of-thing-always, of-pair-always}
