@@ -15,7 +15,7 @@ use Rattle.site.specs.Codes.{roleOf, conceptOf, conceptDeclared, predicateDecla
 use Rattle.site.specs.Lists.{any}
 use Rattle.site.specs.Items.{countAt, codeAt, endAt}
 use Rattle.rules.specs.declared.head.Head.{Head}
-use Rattle.rules.specs.RuleFile.{headOf, codeDeclared, ruleAt, rulesFrom, rulesIn, unbroken, checkRules, siteOf}
+use Rattle.rules.specs.RuleFile.{headOf, codeDeclared, ruleAt, rulesFrom, rulesIn, unbroken, afterRules, checkRules, siteOf}
 use Rattle.bundle.specs.Bundle.{factAt, factsFrom, factsIn, checkBundle, readBundle}
 use Rattle.clean.specs.Types.{itself}
 use Rattle.worlds.specs.Worlds.{World, Is, Obeys, Holds, WorldOf, Consistent}
@@ -49,7 +49,7 @@ abbrev pub head : Head
 head = record { concepts = 1; roles = 1; rules = 4; start = 3 }
 
 pub rules-accepted : checkRules endlessFile ≡ gives head
-unfolding formOf second third numberAt roleOf conceptOf conceptDeclared any countAt codeAt endAt headOf codeDeclared ruleAt rulesFrom rulesIn unbroken checkRules
+unfolding formOf second third numberAt roleOf conceptOf conceptDeclared any countAt codeAt endAt headOf codeDeclared ruleAt rulesFrom rulesIn unbroken afterRules checkRules
 rules-accepted = refl
 
 pub rules-read : siteOf endlessFile head ≡ endless
