@@ -5,3 +5,4 @@ pub mod Laws
 pub mod Arrows
 pub mod Apart
 pub mod Decided
+pub mod Words

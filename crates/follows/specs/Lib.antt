@@ -1,3 +1,4 @@
+pub mod Bits
 pub mod Closed
 pub mod Decides
 pub mod Steps

@@ -1,2 +1,2 @@
-// to come
-fn nothing() {}
+// What follows from a site's rules: tables of bits over the numbers of the nodes.
+mod bits;

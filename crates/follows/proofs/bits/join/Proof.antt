@@ -1,0 +1,37 @@
+use Rattle.follows.proofs.Words.{words}
+use Rattle.follows.proofs.bits.join.Statement.{statement}
+use Rattle.follows.proofs.bits.join.Tie as tie
+
+pub join-spec : {M : Type 1} → statement M
+join-spec =
+    tie.close
+    (tie.spec
+    (λ c. search words)
+    (λ c. search words)
+    (λ c. search words)
+    (λ c. search words)
+    (λ c. search words)
+    (λ c. search words)
+    (λ c. search words)
+    (λ c. search words)
+    (λ c. search words)
+    (λ c. search words)
+    (λ c. search words)
+    (λ c. search words)
+    (λ c. search words)
+    (λ c. search words)
+    (λ c. search words)
+    (λ c. search words)
+    (λ c. search words)
+    (λ c. search words)
+    (λ c. search words)
+    (λ c. search words)
+    (λ c. search words)
+    (λ c. search words)
+    (λ c. search words)
+    (λ c. search words)
+    (λ c. search words)
+    (λ c. search words)
+    (λ c. search words)
+    (λ c. search words)
+    (λ c. search words))
