@@ -1,3 +1,4 @@
 pub mod Bundle
 pub mod Lawful
 pub mod Records
+pub mod Told

@@ -1,4 +1,12 @@
 // Reading and writing a bundle of facts.
+mod check;
 mod facts;
+mod one;
+mod walk;
 
+pub use check::BundleRead;
+pub use check::check_bundle;
 pub use facts::Facts;
+pub use one::FactRead;
+pub use one::any_fact_at;
+pub use one::fact_at;

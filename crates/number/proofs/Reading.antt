@@ -58,8 +58,8 @@ module _ (s : List ℕ) (at most side : ℕ) (r : Num) where
         unfolding second
         two-form h = rw (from-second more, next-byte s (at + 1) b in-second is-b, lt-ltb b 128 h)
 
-        pub two-long : b < 128 → b ≡ 0 → r ≡ Refused (refusal 2 side at) → told r ≡ numberAt s at most side
-        two-long h z e = rw (two-form h, eq-eqb b 0 z, e)
+        pub two-long : b ≡ 0 → r ≡ Refused (refusal 2 side at) → told r ≡ numberAt s at most side
+        two-long z e = rw (two-form (omega arith), eq-eqb b 0 z, e)
 
         pub two : b < 128 → (b ≡ 0 → ⊥) → told r ≡ judged (a - 128 + 128 * b) (at + 1 + 1) at most side → told r ≡ numberAt s at most side
         two h z e =
@@ -80,8 +80,8 @@ module _ (s : List ℕ) (at most side : ℕ) (r : Num) where
             unfolding third
             three-form h = rw (from-third still, next-byte s (at + 1 + 1) c in-third is-c, lt-ltb c 128 h)
 
-            pub three-long : c < 128 → c ≡ 0 → r ≡ Refused (refusal 2 side at) → told r ≡ numberAt s at most side
-            three-long h z e = rw (three-form h, eq-eqb c 0 z, e)
+            pub three-long : c ≡ 0 → r ≡ Refused (refusal 2 side at) → told r ≡ numberAt s at most side
+            three-long z e = rw (three-form (omega arith), eq-eqb c 0 z, e)
 
             pub three : c < 128 → (c ≡ 0 → ⊥)
                 → told r ≡ judged (a - 128 + 128 * (b - 128) + 16384 * c) (at + 1 + 1 + 1) at most side

@@ -8,7 +8,7 @@ use lib.Seq.{sets}
 use lib.Dec.{leb, ltb}
 use native.Mathlib.Numerals.{add-one}
 use native.Mathlib.Omega.{arith}
-use borrow.Author.Tests.{lt-ltb, le-ltb, le-leb, lt-leb}
+use borrow.Author.Tests.{lt-ltb, le-ltb, le-leb, lt-leb, ltb-true, ltb-false}
 use borrow.Author.Needs.{needs}
 use Rattle.number.specs.Answer.{Answer, Read, refusal, over, laid}
 use Rattle.number.specs.Answer.Answer.{gives, refuses}
@@ -16,6 +16,11 @@ use Rattle.number.specs.Number.{bytesOf, plan, threeBytes}
 use Rattle.number.specs.Told.{toldWrote, Writes, Stores, Stored}
 use Rattle.number.specs.declared.write.Wrote.{Wrote}
 use Rattle.number.specs.declared.write.Wrote.the-variants.{Next, Refused}
+
+-- what holds of either holds of the one that the test picks
+pub picked : {A : Type 0} (P : A → Type 0) (x y : A) (t : Bool) → (t ≡ true → P x) → (t ≡ false → P y) → P (cond t x y)
+picked P x y true holds fails = holds refl
+picked P x y false holds fails = fails refl
 
 -- the three forms
 module _ (v : ℕ) where
@@ -40,15 +45,21 @@ module _ (v : ℕ) where
   pub size-3 : 16384 ≤ v → 3 ≡ length (bytesOf v)
   size-3 h = rw (bytes-3 h)
 
+  -- a law of a value's bytes is a law of the three forms
+  pub by-form : (P : List ℕ → Type 0)
+      → (v < 128 → P (v ∷ []))
+      → (128 ≤ v → v < 16384 → P ((v % 128 + 128) ∷ (v / 128) ∷ []))
+      → (16384 ≤ v → P ((v % 128 + 128) ∷ (v / 128 % 128 + 128) ∷ (v / 16384) ∷ []))
+      → P (bytesOf v)
+  unfolding bytesOf
+  by-form P one two three =
+      picked P _ _ (ltb v 128)
+      (λ t. one (ltb-true v 128 t))
+      (λ f. picked P _ _ (ltb v 16384) (λ t. two (ltb-false v 128 f) (ltb-true v 16384 t)) (λ g. three (ltb-false v 16384 g)))
+
   -- every form has a byte
   pub sized : 0 < length (bytesOf v)
-  unfolding bytesOf
-  sized = go (ltb v 128) (ltb v 16384)
-    where
-      go : (one two : Bool) → 0 < length (cond one (v ∷ []) (cond two ((v % 128 + 128) ∷ (v / 128) ∷ []) ((v % 128 + 128) ∷ (v / 128 % 128 + 128) ∷ (v / 16384) ∷ [])))
-      go true two = omega arith
-      go false true = omega arith
-      go false false = omega arith
+  sized = by-form (λ l. 0 < length l) (λ h. omega arith) (λ h k. omega arith) (λ h. omega arith)
 
 -- the stores, one after the other
 module _ (out : List ℕ) (at v : ℕ) (fits : Stores out at v) where

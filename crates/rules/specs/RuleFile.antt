@@ -46,15 +46,15 @@ rulesIn h s zero at = []
 rulesIn h s (suc n) at = onward (ruleAt h s at) (λ r. r .value ∷ rulesIn h s n (r .next))
 
 -- "If q or its inverse is functional, neither may stand on the right of a kind 2 rule, its own inclusion in itself counted"
-abbrev pub onRight : BasicRole → Rule → Bool
-onRight q (roleIncluded p r) = eqb (roleIn r) (roleIn q)
-onRight q (included b c) = false
-onRight q (disjoint b c) = false
-onRight q (roleDisjoint p r) = false
-onRight q (functional p) = false
+abbrev pub onRight : ℕ → Rule → Bool
+onRight j (roleIncluded p q) = eqb (roleIn q) j
+onRight j (included b c) = false
+onRight j (disjoint b c) = false
+onRight j (roleDisjoint p q) = false
+onRight j (functional q) = false
 
 abbrev pub broken : List Rule → Rule → Bool
-broken rules (functional q) = any (onRight q) rules
+broken rules (functional q) = any (onRight (roleIn q)) rules
 broken rules (included b c) = false
 broken rules (disjoint b c) = false
 broken rules (roleIncluded p q) = false
@@ -66,14 +66,19 @@ unbroken h s rules zero at = gives at
 unbroken h s rules (suc n) at =
     ruleAt h s at then λ r. cond (broken rules (r .value)) (refuses (refusal 6 0 at)) (unbroken h s rules n (r .next))
 
--- the whole reading: "After the last item 7, then 6."
+-- "After the last item 7, then 6."
+unfoldable pub afterRules : List ℕ → Head → ℕ → Answer Head
+afterRules s h end =
+    endAt s end 0 then λ _.
+    unbroken h s (rulesIn h s (h .rules) (h .start)) (h .rules) (h .start) then λ _.
+    gives h
+
+-- the whole reading
 unfoldable pub checkRules : List ℕ → Answer Head
 checkRules s =
     headOf s then λ h.
     rulesFrom h s (h .rules) (h .start) then λ end.
-    endAt s end 0 then λ _.
-    unbroken h s (rulesIn h s (h .rules) (h .start)) (h .rules) (h .start) then λ _.
-    gives h
+    afterRules s h end
 
 -- the rules that a file's head and bytes say
 unfoldable pub siteOf : List ℕ → Head → Site

@@ -1,3 +1,4 @@
 pub mod Lists
+pub mod OfItems
 pub mod OfKinds
 pub mod Same

@@ -6,8 +6,10 @@ use lib.Dec.{eqb, ltb, leb}
 use native.Mathlib.Omega.{arith}
 use borrow.Author.Tests.{lt-ltb, le-ltb, eq-eqb, ne-eqb}
 use borrow.Author.Needs.{needs}
-use Rattle.site.specs.Kinds.{BasicRole, turned, below}
+use Rattle.site.specs.Kinds.{BasicRole, Site, turned, below, roleIn, declaredRole, declared}
 use Rattle.site.specs.Kinds.BasicRole.{forward, inverse}
+use Rattle.site.specs.Kinds.BasicConcept.{named, some}
+use Rattle.site.specs.Kinds.Node.{concept}
 use Rattle.site.specs.Kinds.Rule.{included, disjoint, roleIncluded, roleDisjoint, functional}
 use Rattle.site.specs.Codes.{roleOf, conceptOf, roleDeclared, conceptDeclared, predicateDeclared, ruleOf}
 use Rattle.site.specs.Told.{ruleTold}
@@ -25,6 +27,14 @@ role-even q e = rw (eq-eqb (q % 2) 0 e)
 pub role-odd : (q : ℕ) → (q % 2 ≡ 0 → ⊥) → roleOf q ≡ inverse (q / 2)
 unfolding roleOf
 role-odd q h = rw (ne-eqb (q % 2) 0 h)
+
+pub role-number : (q : ℕ) → roleIn (roleOf q) ≡ q / 2
+unfolding roleOf
+role-number q = either (eqb (q % 2) 0)
+  where
+    either : (even : Bool) → roleIn (cond even (forward (q / 2)) (inverse (q / 2))) ≡ q / 2
+    either true = refl
+    either false = refl
 
 pub inverse-even : (q : ℕ) → q % 2 ≡ 0 → roleOf (q + 1) ≡ turned (roleOf q)
 inverse-even q e =
@@ -53,6 +63,21 @@ module _ (concepts roles code : ℕ) where
   pub predicate-high : 64 ≤ code → ltb (code - 64) roles ≡ predicateDeclared concepts roles code
   unfolding predicateDeclared
   predicate-high h = rw (le-ltb code 64 h)
+
+-- a declared code's node is declared
+module _ (s : Site) where
+  pub role-declared : (q : ℕ) → roleDeclared (s .roles) q ≡ declaredRole s (roleOf q)
+  role-declared q = rw role-number
+
+  pub concept-declared : (b : ℕ) → conceptDeclared (s .concepts) (s .roles) b ≡ declared s (concept (conceptOf b))
+  unfolding conceptDeclared conceptOf
+  concept-declared b = either (ltb b 64)
+    where
+      either : (low : Bool)
+          → cond low (ltb b (s .concepts)) (roleDeclared (s .roles) (b - 64))
+          ≡ declared s (concept (cond low (named b) (some (roleOf (b - 64)))))
+      either true = refl
+      either false = role-declared (b - 64)
 
 -- the order of facts
 not-below : (n : ℕ) → ltb n n ≡ false

@@ -1,7 +1,13 @@
--- What each case of the code's rule says.
+-- What each case of the code's answers and kinds says.
+use Prim.Native.Nat.{ℕ}
+use Rattle.number.specs.Answer.{Answer, refusal}
+use Rattle.number.specs.Answer.Answer.{gives, refuses}
+use Rattle.number.specs.declared.refusal.Refusal.{Refusal}
 use Rattle.site.specs.Kinds.{Rule as SaidRule}
 use Rattle.site.specs.Kinds.Rule.{included, disjoint, roleIncluded, roleDisjoint, functional}
 use Rattle.site.specs.Codes.{conceptOf, roleOf}
+use Rattle.site.specs.declared.items.End.{End}
+use Rattle.site.specs.declared.items.End.the-variants.{At, Refused}
 use Rattle.site.specs.declared.rule.Rule.{Rule}
 use Rattle.site.specs.declared.rule.Rule.the-variants.{Included, Disjoint, RoleIncluded, RoleDisjoint, Functional}
 
@@ -12,3 +18,13 @@ ruleTold (Disjoint x y) = disjoint (conceptOf (x .code)) (conceptOf (y .code))
 ruleTold (RoleIncluded x y) = roleIncluded (roleOf (x .code)) (roleOf (y .code))
 ruleTold (RoleDisjoint x y) = roleDisjoint (roleOf (x .code)) (roleOf (y .code))
 ruleTold (Functional x) = functional (roleOf (x .code))
+
+-- the end of a run of items: its place, or the refusal
+abbrev pub endTold : End → Answer ℕ
+endTold (At at) = gives at
+endTold (Refused r) = refuses r
+
+-- the refusal in it; there is none in a place
+abbrev pub endRefusal : End → Refusal
+endRefusal (At at) = refusal 0 0 0
+endRefusal (Refused r) = r

@@ -1,0 +1,113 @@
+-- What an accepted bundle is: lawful facts, as many as its count says, from its start to the end of its bytes; and where a refused one refuses.
+use Prim.Native.Nat.{ℕ, zero, suc, _+_, _*_, _≤_, _<_}
+use mathlib.Core.Path.{_≡_, refl, sym, ap, _∙_}
+use mathlib.Core.Bool.{Bool, true, false, cond}
+use mathlib.Core.List.{List, [], _∷_}
+use lib.ListN.{length}
+use lib.Dec.{ltb, leb}
+use native.Mathlib.Omega.{arith}
+use borrow.Author.Tests.{leb-true, ltb-true, ltb-false}
+use Rattle.number.specs.Answer.{Answer, Read, refusal, _then_}
+use Rattle.number.specs.Answer.Answer.{gives, refuses}
+use Rattle.number.specs.Number.{numberAt}
+use Rattle.number.specs.declared.refusal.Refusal.{Refusal}
+use Rattle.number.proofs.Laws.{Bounds, bounds, RefusedHow, refused-how}
+use Rattle.site.specs.declared.fact.Fact.{Fact}
+use Rattle.site.specs.Items.{countAt, codeAt, endAt}
+use Rattle.site.specs.Kinds.{ofConcept}
+use Rattle.site.specs.Limits.{mostFacts, mostNumber, mostThing}
+use Rattle.rules.specs.declared.head.Head.{Head}
+use Rattle.bundle.specs.Bundle.{Last, factAt, ascends, factsFrom, factsIn, factsOf, predicateKnown, checkBundle}
+use Rattle.bundle.specs.Bundle.Last.{none, after}
+use Rattle.bundle.specs.Lawful.{LawfulFact, LawfulFrom, LawfulFacts}
+use Rattle.bundle.specs.Lawful.LawfulFrom.{done, next}
+use Rattle.bundle.specs.Told.{factRest}
+use Rattle.bundle.specs.declared.facts.Facts.{Facts}
+use Rattle.bundle.proofs.Runs.{never, same-given, Passed, passed, Went, went, CodeThere, code-there, ObjectThere, FactThere, fact-there, fact-by-rest, Run, WalkThere, walk-there}
+use Rattle.bundle.proofs.Runs.ObjectThere.{of-concept, of-role}
+use Rattle.bundle.proofs.Runs.Run.{stop, more}
+
+-- the facts of a run are lawful
+module _ (h : Head) (s : List ℕ) where
+  object-bound : {place : ℕ} {f : Fact} {next : ℕ} → ObjectThere s place f next → f .object ≤ mostThing
+  object-bound (of-concept is zero-object place-is) = omega arith
+  object-bound {place} {f} {next} (of-role is there) = bounds s place mostThing 1 (f .object) next there .within
+
+  concept-object : {place : ℕ} {f : Fact} {next : ℕ} → ObjectThere s place f next → ofConcept f ≡ true → f .object ≡ 0
+  concept-object (of-concept is zero-object place-is) e = zero-object
+  concept-object (of-role is there) e = let z : _≡_ {A = ℕ} 0 1 = cc in absurd (omega arith)
+
+  lawful-fact : {at : ℕ} {f : Fact} {next : ℕ} → FactThere (predicateKnown h) s at f next → LawfulFact h f
+  lawful-fact {at} {f} {next} t =
+      record {
+        known = t .holds;
+        subject-within = bounds s (t .place-of-subject) mostThing 1 (f .subject) (t .place-of-object) (t .subject) .within;
+        object-within = object-bound (t .object);
+        no-object = concept-object (t .object);
+      }
+
+  pub run-lawful : {last : Last} {fs : List Fact} {at end : ℕ} → Run (predicateKnown h) s last fs at end → LawfulFrom h last fs
+  run-lawful stop = done
+  run-lawful (more there up run) = next (lawful-fact there) up (run-lawful run)
+
+-- a count that is there
+pub record CountThere (s : List ℕ) (at limit side : ℕ) (n : Read ℕ) : Type 0 where
+  pub number : numberAt s at mostNumber side ≡ gives n
+  pub within : n .value ≤ limit
+
+pub count-there : (s : List ℕ) (at limit side : ℕ) (n : Read ℕ) → countAt s at limit side ≡ gives n → CountThere s at limit side n
+unfolding countAt
+count-there s at limit side n e =
+    let w = went (numberAt s at mostNumber side) (λ m. cond (leb (m .value) limit) (gives m) (refuses (refusal 4 side at))) n e in
+    let t = passed (leb (w .mid .value) limit) (gives (w .mid)) (refusal 4 side at) n (w .rest) in
+    let same : w .mid ≡ n = same-given (t .result) in
+    record { number = w .first ∙ t .result; within = rw same at (leb-true (w .mid .value) limit (t .holds)) }
+
+-- nothing stands after the last item
+pub end-there : (s : List ℕ) (at side end : ℕ) → endAt s at side ≡ gives end → length s ≤ at
+unfolding endAt
+end-there s at side end e = by-test (ltb at (length s)) refl e
+  where
+    by-test : (t : Bool) → ltb at (length s) ≡ t → cond t (refuses (refusal 7 side at)) (gives at) ≡ gives end → length s ≤ at
+    by-test true is e = absurd (never e)
+    by-test false is e = ltb-false at (length s) is
+
+-- a bundle that was accepted: its count, and its facts from the start to the end of the bytes
+pub record BundleThere (h : Head) (s : List ℕ) (b : Facts) : Type 0 where
+  pub count-number : numberAt s 0 mostNumber 1 ≡ gives (record { value = b .count; next = b .start })
+  pub count-within : b .count ≤ mostFacts
+  pub end : ℕ
+  pub run : Run (predicateKnown h) s none (factsOf s b) (b .start) end
+  pub count : length (factsOf s b) ≡ b .count
+  pub at-end : length s ≤ end
+
+module _ (h : Head) (s : List ℕ) (b : Facts) (e : checkBundle h s ≡ gives b) where
+  pub bundle-there : BundleThere h s b
+  unfolding checkBundle
+  bundle-there =
+      let k₃ : ℕ → ℕ → ℕ → Answer Facts = λ count start end. gives (record { count = count; start = start }) in
+      let k₂ : Read ℕ → ℕ → Answer Facts = λ n end. endAt s end 1 then k₃ (n .value) (n .next) in
+      let w = went (countAt s 0 mostFacts 1) (λ n. factsFrom (predicateKnown h) s none (n .value) (n .next) then k₂ n) b e in
+      let v = went (factsFrom (predicateKnown h) s none (w .mid .value) (w .mid .next)) (k₂ (w .mid)) b (w .rest) in
+      let u = went (endAt s (v .mid) 1) (k₃ (w .mid .value) (w .mid .next)) b (v .rest) in
+      let same : record { count = w .mid .value; start = w .mid .next } ≡ b = same-given (u .rest) in
+      let c = count-there s 0 mostFacts 1 (w .mid) (w .first) in
+      let r = walk-there (predicateKnown h) s none (w .mid .value) (w .mid .next) (v .mid) (v .first) in
+      let there : BundleThere h s (record { count = w .mid .value; start = w .mid .next }) = record {
+        count-number = c .number;
+        count-within = c .within;
+        end = v .mid;
+        run = r .run;
+        count = r .count;
+        at-end = end-there s (v .mid) 1 (u .mid) (u .first);
+      } in
+      rw same at there
+
+  -- an accepted bundle's facts are lawful, and as many as its count says
+  pub accepted-lawful : LawfulFacts h (factsOf s b)
+  accepted-lawful =
+      let t = bundle-there in
+      record { few = omega (arith, t .count, t .count-within); lawful = run-lawful h s (t .run) }
+
+  pub accepted-count : length (factsOf s b) ≡ b .count
+  accepted-count = bundle-there .count

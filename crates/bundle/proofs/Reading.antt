@@ -1,0 +1,195 @@
+-- What the answers of the readers below say of a fact, a walk and a bundle: one law for each way out of the reading functions.
+use Prim.Native.Nat.{ℕ, zero, suc, _+_, _-_, _≤_, _<_}
+use mathlib.Core.Path.{_≡_, refl, sym, ap, _∙_}
+use mathlib.Core.Bool.{Bool, true, false, cond}
+use mathlib.Core.List.{List}
+use lib.Dec.{ltb}
+use native.Mathlib.Omega.{arith}
+use borrow.Author.Needs.{needs}
+use Rattle.number.specs.Answer.{Answer, Read, refusal, _then_}
+use Rattle.number.specs.Answer.Answer.{gives, refuses}
+use Rattle.number.specs.Number.{numberAt}
+use Rattle.number.specs.Told.{told, refusalIn}
+use Rattle.number.specs.declared.refusal.Refusal.{Refusal}
+use Rattle.number.specs.declared.read.Num.{Num}
+use Rattle.number.specs.declared.read.Num.the-variants.{Value, Refused}
+use Rattle.site.specs.declared.fact.Fact.{Fact}
+use Rattle.site.specs.declared.items.End.{End}
+use Rattle.site.specs.declared.items.End.the-variants.{At, Refused as RefusedEnd}
+use Rattle.site.specs.Codes.{predicateDeclared}
+use Rattle.site.specs.Items.{countAt, codeAt, endAt}
+use Rattle.site.specs.Kinds.{below, ofConcept}
+use Rattle.site.specs.Limits.{mostFacts, mostThing}
+use Rattle.site.specs.Told.{endTold, endRefusal}
+use Rattle.rules.specs.declared.head.Head.{Head}
+use Rattle.bundle.specs.Bundle.{Last, factAt, ascends, factsFrom, predicateKnown, checkBundle}
+use Rattle.bundle.specs.Bundle.Last.{none, after}
+use Rattle.bundle.specs.Told.{factTold, factRefusal, stepTold, stepRefusal, bundleTold, bundleRefusal, factRest, lastOf, ascendsAfter, stepFrom}
+use Rattle.bundle.specs.declared.facts.Facts.{Facts}
+use Rattle.bundle.specs.declared.one.FactRead.{FactRead}
+use Rattle.bundle.specs.declared.one.FactRead.the-variants.{Read as ReadFact, Refused as RefusedFact}
+use Rattle.bundle.specs.declared.walk.Walk.{Walk}
+use Rattle.bundle.specs.declared.walk.Step.{Step}
+use Rattle.bundle.specs.declared.walk.Step.the-variants.{On, Refused as RefusedStep}
+use Rattle.bundle.specs.declared.check.BundleRead.{BundleRead}
+use Rattle.bundle.specs.declared.check.BundleRead.the-variants.{Accepted, Refused as RefusedBundle}
+
+-- what was read has no refusal
+pub fact-no-refusal : (a : FactRead) (f : Fact) (next : ℕ) → a ≡ ReadFact f next → refusal 0 0 0 ≡ factRefusal a
+fact-no-refusal a f next is = rw is
+
+pub step-no-refusal : (a : Step) (w : Walk) → a ≡ On w → refusal 0 0 0 ≡ stepRefusal a
+step-no-refusal a w is = rw is
+
+pub bundle-no-refusal : (a : BundleRead) (b : Facts) → a ≡ Accepted b → refusal 0 0 0 ≡ bundleRefusal a
+bundle-no-refusal a b is = rw is
+
+-- a number of the bundle that was read
+module _ (s : List ℕ) (at : ℕ) (n : Num) (is : told n ≡ numberAt s at mostThing 1) where
+  module _ (r x : Refusal) (stopped : n ≡ Refused x) (same : r ≡ refusalIn n) where
+    refused-there : numberAt s at mostThing 1 ≡ refuses r
+    refused-there = sym is ∙ ap told stopped ∙ ap refuses (sym (same ∙ ap refusalIn stopped))
+
+    pub subject-refused : (predicate : ℕ) → refuses r ≡ factRest s predicate at
+    unfolding factRest
+    subject-refused predicate = rw refused-there
+
+    pub predicate-refused : (known : ℕ → Bool) → refuses r ≡ factAt known s at
+    unfolding factAt codeAt
+    predicate-refused known = rw refused-there
+
+  module _ (a next : ℕ) (read : n ≡ Value a next) where
+    value-there : numberAt s at mostThing 1 ≡ gives (record { value = a; next = next })
+    value-there = sym is ∙ ap told read
+
+    -- the number is a predicate
+    pub predicate-unknown : (concepts roles : ℕ) (t : Bool) → t ≡ predicateDeclared concepts roles a → t ≡ false
+        → refuses (refusal 5 1 at) ≡ factAt (predicateDeclared concepts roles) s at
+    unfolding factAt codeAt
+    predicate-unknown concepts roles t is-t f = rw (value-there, ← is-t, f)
+
+    module _ (r : FactRead) (rest : factTold r ≡ factRest s a next) where
+      pub predicate-known : (concepts roles : ℕ) (t : Bool) → t ≡ predicateDeclared concepts roles a → t ≡ true
+          → factTold r ≡ factAt (predicateDeclared concepts roles) s at
+      unfolding factAt codeAt factRest
+      predicate-known concepts roles t is-t f = rw (value-there, ← is-t, f) rest
+
+      pub predicate-any : factTold r ≡ factAt (λ _. true) s at
+      unfolding factAt codeAt factRest
+      predicate-any = rw value-there rest
+
+    -- the number is a subject
+    module _ (predicate : ℕ) (f : Fact) (is-f : f ≡ record { predicate = predicate; subject = a; object = 0 }) (t : Bool) (is-t : t ≡ ofConcept f) where
+      of-predicate : t ≡ ltb predicate 64
+      of-predicate = is-t ∙ ap ofConcept is-f
+
+      pub concept-read : t ≡ true → gives (record { value = f; next = next }) ≡ factRest s predicate at
+      unfolding factRest
+      concept-read h = rw (value-there, ← of-predicate, h, is-f)
+
+      module _ (role : t ≡ false) (m : Num) (is-m : told m ≡ numberAt s next mostThing 1) where
+        to-object : factRest s predicate at
+            ≡ (told m then λ b. gives (record { value = record { predicate = predicate; subject = a; object = b .value }; next = b .next }))
+        unfolding factRest
+        to-object = rw (value-there, ← of-predicate, role, is-m)
+
+        pub object-refused : (r x : Refusal) → m ≡ Refused x → r ≡ refusalIn m → refuses r ≡ factRest s predicate at
+        object-refused r x stopped same = rw (to-object, same, stopped)
+
+        pub role-read : (b end : ℕ) (g : Fact) → m ≡ Value b end → g ≡ record { predicate = predicate; subject = a; object = b }
+            → gives (record { value = g; next = end }) ≡ factRest s predicate at
+        role-read b end g read is-g = rw (to-object, read, is-g)
+
+-- the fact before, as a walk holds it
+module _ (w : Walk) (f : Fact) where
+  pub after-none : w .any ≡ false → true ≡ ascendsAfter w f
+  unfolding lastOf
+  after-none h = rw h
+
+  pub after-last : (r : Bool) → r ≡ below (w .last) f → w .any ≡ true → r ≡ ascendsAfter w f
+  unfolding lastOf
+  after-last r is h = rw h is
+
+-- one step
+module _ (h : Head) (s : List ℕ) (w : Walk) (got : FactRead) (is : factTold got ≡ factAt (predicateKnown h) s (w .at)) where
+  pub step-refused : (r x : Refusal) → got ≡ RefusedFact x → r ≡ factRefusal got → refuses r ≡ stepFrom (predicateKnown h) s w
+  unfolding stepFrom
+  step-refused r x stopped same = rw (← is, same, stopped)
+
+  module _ (f : Fact) (next : ℕ) (read : got ≡ ReadFact f next) (t : Bool) (is-t : t ≡ ascendsAfter w f) where
+    pub step-on : t ≡ true → gives (record { at = next; last = f; any = true }) ≡ stepFrom (predicateKnown h) s w
+    unfolding stepFrom
+    step-on e = rw (← is, read, ← is-t, e)
+
+    pub step-order : t ≡ false → refuses (refusal 8 1 (w .at)) ≡ stepFrom (predicateKnown h) s w
+    unfolding stepFrom
+    step-order e = rw (← is, read, ← is-t, e)
+
+-- the facts from a walk on
+abbrev pub restOf : (ℕ → Bool) → List ℕ → Walk → ℕ → Answer ℕ
+restOf known s w n = factsFrom known s (lastOf w) n (w .at)
+
+module _ (known : ℕ → Bool) (s : List ℕ) where
+  pub walk-starts : (n start : ℕ) (f : Fact) → factsFrom known s none n start ≡ restOf known s (record { at = start; last = f; any = false }) n
+  unfolding lastOf
+  walk-starts n start f = refl
+
+  by-test : (n at : ℕ) (f : Read Fact) (t : Bool)
+      → cond t (factsFrom known s (after (f .value)) n (f .next)) (refuses (refusal 8 1 at))
+      ≡ (cond t (gives (record { at = f .next; last = f .value; any = true })) (refuses (refusal 8 1 at)) then λ w. restOf known s w n)
+  unfolding lastOf
+  by-test n at f true = refl
+  by-test n at f false = refl
+
+  by-fact : (w : Walk) (n : ℕ) (a : Answer (Read Fact))
+      → (a then λ f. cond (ascendsAfter w (f .value)) (factsFrom known s (after (f .value)) n (f .next)) (refuses (refusal 8 1 (w .at))))
+      ≡ ((a then λ f. cond (ascendsAfter w (f .value)) (gives (record { at = f .next; last = f .value; any = true })) (refuses (refusal 8 1 (w .at))))
+      then λ w′. restOf known s w′ n)
+  by-fact w n (gives f) = by-test n (w .at) f (ascendsAfter w (f .value))
+  by-fact w n (refuses r) = refl
+
+  -- one turn of the walk
+  pub one-turn : (w : Walk) (n : ℕ) → restOf known s w (suc n) ≡ (stepFrom known s w then λ w′. restOf known s w′ n)
+  unfolding factsFrom stepFrom
+  one-turn w n = by-fact w n (factAt known s (w .at))
+
+  turn-of : (w : Walk) (left : ℕ) → 0 < left → restOf known s w left ≡ (stepFrom known s w then λ w′. restOf known s w′ (left - 1))
+  turn-of w left h =
+      let e : left ≡ suc (left - 1) = omega arith in
+      ap (restOf known s w) e ∙ one-turn w (left - 1)
+
+  module _ (n start : ℕ) (w : Walk) (left : ℕ) (inv : factsFrom known s none n start ≡ restOf known s w left) where
+    module _ (more : 0 < left) (got : Step) (is : stepTold got ≡ stepFrom known s w) where
+      pub walk-refused : (r x : Refusal) → got ≡ RefusedStep x → r ≡ stepRefusal got → refuses r ≡ factsFrom known s none n start
+      walk-refused r x stopped same = rw (inv, turn-of w left more, ← is, same, stopped)
+
+      pub walk-on : (w′ : Walk) → got ≡ On w′ → factsFrom known s none n start ≡ restOf known s w′ (left - 1)
+      walk-on w′ on = rw (inv, turn-of w left more, ← is, on)
+
+    pub walk-ends : left ≤ 0 → gives (w .at) ≡ factsFrom known s none n start
+    unfolding factsFrom
+    walk-ends h =
+        let e : left ≡ 0 = omega arith in
+        rw (inv, e)
+
+-- the whole bundle
+module _ (h : Head) (s : List ℕ) (n : Num) (is : told n ≡ countAt s 0 mostFacts 1) where
+  pub count-refused : (r x : Refusal) → n ≡ Refused x → r ≡ refusalIn n → refuses r ≡ checkBundle h s
+  unfolding checkBundle
+  count-refused r x stopped same = rw (← is, same, stopped)
+
+  module _ (count start : ℕ) (read : n ≡ Value count start) (e : End) (walked : endTold e ≡ factsFrom (predicateKnown h) s none count start) where
+    pub facts-refused : (r x : Refusal) → e ≡ RefusedEnd x → r ≡ endRefusal e → refuses r ≡ checkBundle h s
+    unfolding checkBundle
+    facts-refused r x stopped same = rw (← is, read, ← walked, same, stopped)
+
+    module _ (end : ℕ) (is-end : e ≡ At end) (l : End) (ended : endTold l ≡ endAt s end 1) where
+      pub end-refused : (r x : Refusal) → l ≡ RefusedEnd x → r ≡ endRefusal l → refuses r ≡ checkBundle h s
+      unfolding checkBundle
+      end-refused r x stopped same = rw (← is, read, ← walked, is-end, ← ended, same, stopped)
+
+      pub bundle-accepted : (at : ℕ) → l ≡ At at → gives (record { count = count; start = start }) ≡ checkBundle h s
+      unfolding checkBundle
+      bundle-accepted at is-at = rw (← is, read, ← walked, is-end, ← ended, is-at)
+
+pub ruleset reading = (fact-no-refusal, step-no-refusal, bundle-no-refusal, subject-refused, predicate-refused, predicate-unknown, predicate-known, predicate-any, concept-read, object-refused, role-read, after-none, after-last, step-refused, step-on, step-order, walk-starts, walk-refused, walk-on, walk-ends, count-refused, facts-refused, end-refused, bundle-accepted, needs)

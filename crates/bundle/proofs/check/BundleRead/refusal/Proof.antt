@@ -1,0 +1,12 @@
+use Rattle.bundle.proofs.Reading.{reading}
+use Rattle.bundle.proofs.check.BundleRead.refusal.Statement.{statement}
+use Rattle.bundle.proofs.check.BundleRead.refusal.Tie as tie
+
+pub refusal-spec : {M : Type 1} → statement M
+refusal-spec =
+    tie.close
+    (tie.spec
+    (λ c. search reading)
+    (λ c. search reading)
+    (λ c. search reading)
+    (λ c. search reading))

@@ -1,0 +1,73 @@
+-- What each case of the code's answers says, in document 01's number and values; and what one step of the reading comes to.
+use Prim.Native.Nat.{ℕ}
+use mathlib.Core.Bool.{Bool, true, false, cond}
+use mathlib.Core.List.{List}
+use lib.Dec.{ltb}
+use Rattle.number.specs.Answer.{Answer, Read, refusal, _then_}
+use Rattle.number.specs.Answer.Answer.{gives, refuses}
+use Rattle.number.specs.Number.{numberAt}
+use Rattle.number.specs.declared.refusal.Refusal.{Refusal}
+use Rattle.site.specs.declared.fact.Fact.{Fact}
+use Rattle.site.specs.Limits.{mostThing}
+use Rattle.bundle.specs.Bundle.{Last, factAt, ascends}
+use Rattle.bundle.specs.Bundle.Last.{none, after}
+use Rattle.bundle.specs.declared.facts.Facts.{Facts}
+use Rattle.bundle.specs.declared.one.FactRead.{FactRead}
+use Rattle.bundle.specs.declared.one.FactRead.the-variants.{Read as ReadFact, Refused as RefusedFact}
+use Rattle.bundle.specs.declared.walk.Walk.{Walk}
+use Rattle.bundle.specs.declared.walk.Step.{Step}
+use Rattle.bundle.specs.declared.walk.Step.the-variants.{On, Refused as RefusedStep}
+use Rattle.bundle.specs.declared.check.BundleRead.{BundleRead}
+use Rattle.bundle.specs.declared.check.BundleRead.the-variants.{Accepted, Refused as RefusedBundle}
+
+-- a fact: its numbers with the place after it, or the refusal
+abbrev pub factTold : FactRead → Answer (Read Fact)
+factTold (ReadFact fact next) = gives (record { value = fact; next = next })
+factTold (RefusedFact r) = refuses r
+
+-- the refusal in it; there is none in a fact
+abbrev pub factRefusal : FactRead → Refusal
+factRefusal (ReadFact fact next) = refusal 0 0 0
+factRefusal (RefusedFact r) = r
+
+-- a step: where the walk goes on, or the refusal
+abbrev pub stepTold : Step → Answer Walk
+stepTold (On walk) = gives walk
+stepTold (RefusedStep r) = refuses r
+
+-- the refusal in it; there is none in a walk that goes on
+abbrev pub stepRefusal : Step → Refusal
+stepRefusal (On walk) = refusal 0 0 0
+stepRefusal (RefusedStep r) = r
+
+-- a bundle: its head, or the refusal
+abbrev pub bundleTold : BundleRead → Answer Facts
+bundleTold (Accepted facts) = gives facts
+bundleTold (RefusedBundle r) = refuses r
+
+-- the refusal in it; there is none in an accepted bundle
+abbrev pub bundleRefusal : BundleRead → Refusal
+bundleRefusal (Accepted facts) = refusal 0 0 0
+bundleRefusal (RefusedBundle r) = r
+
+-- "subject, and for a role the object": what follows a fact's predicate
+unfoldable pub factRest : List ℕ → ℕ → ℕ → Answer (Read Fact)
+factRest s predicate at =
+    numberAt s at mostThing 1 then λ a.
+    cond (ltb predicate 64)
+    (gives (record { value = record { predicate = predicate; subject = a .value; object = 0 }; next = a .next }))
+    (numberAt s (a .next) mostThing 1 then λ b.
+    gives (record { value = record { predicate = predicate; subject = a .value; object = b .value }; next = b .next }))
+
+-- the fact before, as a walk holds it
+unfoldable pub lastOf : Walk → Last
+lastOf w = cond (w .any) (after (w .last)) none
+
+abbrev pub ascendsAfter : Walk → Fact → Bool
+ascendsAfter w f = ascends (lastOf w) f
+
+-- one fact of the walk, judged: the walk after it
+unfoldable pub stepFrom : (ℕ → Bool) → List ℕ → Walk → Answer Walk
+stepFrom known s w =
+    factAt known s (w .at) then λ f.
+    cond (ascendsAfter w (f .value)) (gives (record { at = f .next; last = f .value; any = true })) (refuses (refusal 8 1 (w .at)))

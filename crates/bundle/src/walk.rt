@@ -1,0 +1,96 @@
+// Walking through a bundle's facts, each declared and above the one before it.
+ghost use mathlib.Core.Path.{_≡_};
+ghost use Rattle.site.specs.Told.{endTold};
+ghost use Rattle.bundle.specs.Bundle.{factsFrom, predicateKnown};
+ghost use Rattle.bundle.specs.Bundle.Last.{none};
+ghost use Rattle.bundle.specs.Told.{stepTold, stepRefusal, stepFrom, ascendsAfter};
+use crate::one::FactRead;
+use crate::one::fact_at;
+use number::Refusal;
+use rules::Head;
+use site::End;
+use site::Fact;
+
+// Where the walk is, and the fact before, if there is any.
+pub struct Walk {
+    pub at: usize,
+    pub last: Fact,
+    pub any: bool,
+}
+
+// What one step of the walk finds: the walk after the fact, or the refusal.
+pub enum Step {
+    On(Walk),
+    Refused(Refusal),
+}
+
+impl Step {
+    // The refusal, where there is one.
+    pub fn refusal(self) -> Refusal
+        ensures { λ r. ⌜ r ≡ stepRefusal self ⌝ }
+    {
+        match self {
+            Step::On(_) => Refusal {
+                number: 0,
+                side: 0,
+                place: 0,
+            },
+            Step::Refused(r) => r,
+        }
+    }
+}
+
+impl Walk {
+    // Is a fact above the one before it?
+    fn ascends(self, fact: Fact) -> bool
+        ensures { λ r. ⌜ r ≡ ascendsAfter self fact ⌝ }
+    {
+        if self.any {
+            return self.last.below(fact);
+        }
+        true
+    }
+
+    // The fact at the walk's place is read, then judged by its order.
+    pub fn step(self, s: &[u8], head: Head) -> Step
+        ensures { λ r. ⌜ stepTold r ≡ stepFrom (predicateKnown head) (now (s .entry)) self ⌝ }
+    {
+        let got = fact_at(s, head.concepts, head.roles, self.at);
+        let FactRead::Read(fact, next) = got else {
+            return Step::Refused(got.refusal());
+        };
+        if self.ascends(fact) {
+            return Step::On(Walk {
+                at: next,
+                last: fact,
+                any: true,
+            });
+        }
+        Step::Refused(Refusal {
+            number: Refusal::ORDER,
+            side: Refusal::BUNDLE,
+            place: self.at,
+        })
+    }
+}
+
+// So many facts from a place on: the place after them.
+pub fn walk_facts(s: &[u8], head: Head, count: u32, start: usize) -> End
+    ensures { λ r. ⌜ endTold r ≡ factsFrom (predicateKnown head) (now (s .entry)) none count start ⌝ }
+{
+    let mut walk = Walk {
+        at: start,
+        last: Fact::new(0, 0, 0),
+        any: false,
+    };
+    let mut left = count;
+    while 0 < left {
+        let got = walk.step(s, head);
+        let Step::On(next) = got else {
+            return End::Refused(got.refusal());
+        };
+        walk = next;
+        left -= 1;
+    }
+    End::At(walk.at)
+}

@@ -1,0 +1,4 @@
+pub mod Accepted
+pub mod AcceptedFile
+pub mod Checking
+pub mod Reading

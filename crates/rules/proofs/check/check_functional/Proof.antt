@@ -1,0 +1,31 @@
+-- The loop's invariant: what the whole comes to is what the rules that are left come to from here.
+use Rattle.rules.proofs.Checking.{checking}
+use mathlib.Core.Path.{_≡_}
+use Rattle.rules.specs.RuleFile.{rulesIn, unbroken}
+use Rattle.rules.proofs.check.check_functional.Statement.{statement}
+use Rattle.rules.proofs.check.check_functional.Tie as tie
+
+abbrev Inv-loop : tie.InvT-loop
+Inv-loop s head right at₀ left₀ at left = unbroken head s (rulesIn head s (head .rules) (head .start)) (head .rules) (head .start) ≡ unbroken head s (rulesIn head s (head .rules) (head .start)) left at
+
+abbrev μ-loop : tie.MeasureT-loop
+μ-loop s head right at₀ left₀ at left = left
+
+pub check-functional-spec : {M : Type 1} → statement M
+check-functional-spec =
+    tie.close
+    (tie.spec
+    Inv-loop
+    μ-loop
+    (λ c. search checking)
+    (λ c κs. search checking)
+    (λ c. search checking)
+    (λ c. search checking)
+    (λ c κs. search checking)
+    (λ c. search checking)
+    (λ c κs. search checking)
+    (λ c. search checking)
+    (λ c. search checking)
+    (λ c. search checking)
+    (λ c. search checking)
+    (λ c. search checking))

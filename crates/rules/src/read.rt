@@ -1,0 +1,95 @@
+// Reading one rule at a place.
+ghost use mathlib.Core.Path.{_≡_};
+ghost use lib.Dec.{leb};
+ghost use Rattle.number.specs.Told.{told};
+ghost use Rattle.site.specs.Items.{codeAt};
+ghost use Rattle.site.specs.Limits.{lastKind};
+ghost use Rattle.rules.specs.RuleFile.{codeDeclared, ruleAt};
+ghost use Rattle.rules.specs.Told.{ruleReadTold, ruleReadRefusal};
+use crate::head::Head;
+use number::Num;
+use number::Refusal;
+use number::read_number;
+use site::Rule;
+
+// What reading a rule finds: the rule with the place after it, or the refusal.
+pub enum RuleRead {
+    Read(Rule, usize),
+    Refused(Refusal),
+}
+
+impl RuleRead {
+    // The refusal, where there is one.
+    pub fn refusal(self) -> Refusal
+        ensures { λ r. ⌜ r ≡ ruleReadRefusal self ⌝ }
+    {
+        match self {
+            RuleRead::Read(_, _) => Refusal {
+                number: 0,
+                side: 0,
+                place: 0,
+            },
+            RuleRead::Refused(r) => r,
+        }
+    }
+}
+
+fn unknown(at: usize) -> Num
+    ensures { λ r. ⌜ r ≡ Num.Refused (record { number = 5; side = 0; place = at }) ⌝ }
+{
+    Num::Refused(Refusal {
+        number: Refusal::UNKNOWN,
+        side: Refusal::RULES,
+        place: at,
+    })
+}
+
+// "rule kind over 4"
+fn read_kind(s: &[u8], at: usize) -> Num
+    ensures { λ r. ⌜ told r ≡ codeAt (now (s .entry)) at (λ kind. leb kind lastKind) 0 ⌝ }
+{
+    let got = read_number(s, at, Num::MOST, Refusal::RULES);
+    let Num::Value(kind, _) = got else {
+        return got;
+    };
+    if kind <= Rule::LAST_KIND {
+        return got;
+    }
+    unknown(at)
+}
+
+// "concept or role not declared"
+fn read_code(s: &[u8], head: Head, kind: u32, at: usize) -> Num
+    ensures { λ r. ⌜ told r ≡ codeAt (now (s .entry)) at (codeDeclared head kind) 0 ⌝ }
+{
+    let got = read_number(s, at, Num::MOST, Refusal::RULES);
+    let Num::Value(code, _) = got else {
+        return got;
+    };
+    if head.has_code(kind, code) {
+        return got;
+    }
+    unknown(at)
+}
+
+// "A rule is its kind, then its codes"
+pub fn rule_at(s: &[u8], head: Head, at: usize) -> RuleRead
+    ensures { λ r. ⌜ ruleReadTold r ≡ ruleAt head (now (s .entry)) at ⌝ }
+{
+    let first = read_kind(s, at);
+    let Num::Value(kind, p) = first else {
+        return RuleRead::Refused(first.refusal());
+    };
+    let second = read_code(s, head, kind, p);
+    let Num::Value(x, q) = second else {
+        return RuleRead::Refused(second.refusal());
+    };
+    if kind == Rule::LAST_KIND {
+        return RuleRead::Read(Rule::new(kind, x, 0), q);
+    }
+    let third = read_code(s, head, kind, q);
+    let Num::Value(y, next) = third else {
+        return RuleRead::Refused(third.refusal());
+    };
+    RuleRead::Read(Rule::new(kind, x, y), next)
+}

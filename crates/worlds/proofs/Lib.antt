@@ -1,0 +1,13 @@
+pub mod OfLists
+pub mod OfNodes
+pub mod OfTypes
+pub mod Sound
+pub mod Chase
+pub mod Repairs
+pub mod Told
+pub mod Canonical
+pub mod Consistency
+pub mod Dropped
+pub mod Answered
+pub mod WorldsDecide
+pub mod Endless
