@@ -8,3 +8,4 @@ pub mod Decided
 pub mod Words
 pub mod Passes
 pub mod Lowers
+pub mod Adds

@@ -1,3 +1,4 @@
+pub mod Adding
 pub mod Bits
 pub mod Closed
 pub mod Decides

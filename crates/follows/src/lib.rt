@@ -3,3 +3,4 @@ mod bits;
 mod close;
 mod exclude;
 mod listed;
+mod says;
