@@ -9,3 +9,4 @@ pub mod Words
 pub mod Passes
 pub mod Lowers
 pub mod Adds
+pub mod Numbers
