@@ -203,7 +203,7 @@ ring-of t₀ t₁ t₂ t₃ t₄ j m n o e f g a b c d =
     (added-last (record { left = role (inverse j); right = role (forward j) }) t₃ t₄ _ _ d (omega arith) (omega arith))))
 
 -- the rings, one after the other
-each-more : {A B : Type 0} (f : A → List B) (l : List A) (x : A) → each f (l ++ (x ∷ [])) ≡ each f l ++ f x
+pub each-more : {A B : Type 0} (f : A → List B) (l : List A) (x : A) → each f (l ++ (x ∷ [])) ≡ each f l ++ f x
 unfolding each
 each-more f [] x = append-nil (f x)
 each-more f (y ∷ l) x = ap (λ k. f y ++ k) (each-more f l x) ∙ sym (append-assoc (f y) (each f l) (f x))

@@ -10,3 +10,4 @@ pub mod Passes
 pub mod Lowers
 pub mod Adds
 pub mod Numbers
+pub mod Filling

@@ -7,3 +7,4 @@ pub mod Lowering
 pub mod Passes
 pub mod Steps
 pub mod Tables
+pub mod Tells

@@ -2,5 +2,10 @@
 mod bits;
 mod close;
 mod exclude;
+mod filled;
 mod listed;
 mod says;
+
+pub use bits::NODES;
+pub use bits::get;
+pub use filled::fill;
