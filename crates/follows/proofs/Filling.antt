@@ -89,12 +89,12 @@ module _ (f : Rule → List Pair) where
       subst (λ l. AddedAll (each f l) old new) (sym e) (p .all)
 
 -- functional roles
-bit-of-none : (k : ℕ) → bitOf 0 k ≡ false
+pub bit-of-none : (k : ℕ) → bitOf 0 k ≡ false
 unfolding bitOf
 bit-of-none k =
     let e : 0 / 2 ^ k ≡ 0 = div-eq-of-lt (pow-pos k) in
     rw e
-  
+
 functional-start : (whole : List Rule) → FunctionalSoFar whole whole 0
 functional-start whole =
     record {

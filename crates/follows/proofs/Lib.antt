@@ -11,3 +11,5 @@ pub mod Lowers
 pub mod Adds
 pub mod Numbers
 pub mod Filling
+pub mod Bridge
+pub mod Telling
