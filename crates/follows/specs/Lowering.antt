@@ -1,8 +1,9 @@
 -- What each pass does that makes exclusions of the written ones: down both sides along what is included, with the empty nodes added in between.
-use Prim.Native.Nat.{ℕ, _<_}
+use Prim.Native.Nat.{ℕ, _+_, _/_, _%_, _^_, _<_}
+use mathlib.Core.Bool.{true}
 use mathlib.Core.Path.{_≡_}
 use mathlib.Core.List.{List}
-use Rattle.follows.specs.Bits.{Has, IsTable}
+use Rattle.follows.specs.Bits.{bitOf, Has, IsTable}
 use Rattle.follows.specs.Listed.{countOf, nodeAt, Listed}
 use Rattle.follows.specs.Passes.{Within}
 
@@ -20,35 +21,56 @@ pub record Even (concepts roles : ℕ) (t : List ℕ) : Type 0 where
   pub within : Within concepts roles t
   pub symmetric : (x y : ℕ) → Has t x y → Has t y x
 
--- row x takes row u in, if `by` has u in row x
-pub data CameLowered (by old : List ℕ) (x u a v : ℕ) : Type 0 where
-  at-once : Has old a v → CameLowered by old x u a v
-  lowered : a ≡ x → Has by x u → Has old u v → CameLowered by old x u a v
+-- row x takes row u in, if the word's lowest bit is set
+pub data CameBit (word : ℕ) (old : List ℕ) (x u a v : ℕ) : Type 0 where
+  at-once : Has old a v → CameBit word old x u a v
+  taken : a ≡ x → word % 2 ≡ 1 → Has old u v → CameBit word old x u a v
 
-pub record Lowered (by old new : List ℕ) (x u : ℕ) : Type 0 where
+pub record TookBit (word : ℕ) (old new : List ℕ) (x u : ℕ) : Type 0 where
   pub table : IsTable new
   pub stays : (a v : ℕ) → Has old a v → Has new a v
-  pub comes : (v : ℕ) → Has by x u → Has old u v → Has new x v
-  pub came : (a v : ℕ) → Has new a v → CameLowered by old x u a v
+  pub comes : (v : ℕ) → x < 192 → word % 2 ≡ 1 → Has old u v → Has new x v
+  pub came : (a v : ℕ) → Has new a v → CameBit word old x u a v
+
+-- it has taken in the rows of the word's first bits; the first of them is the row of bit 0
+pub data CameWord (word base : ℕ) (old : List ℕ) (x a v : ℕ) : Type 0 where
+  at-once : Has old a v → CameWord word base old x a v
+  taken : (b : ℕ) → b < 64 → a ≡ x → bitOf word b ≡ true → Has old (base + b) v → CameWord word base old x a v
+
+pub record TookTo (bits rest word base : ℕ) (old new : List ℕ) (x : ℕ) : Type 0 where
+  pub table : IsTable new
+  pub left : rest ≡ word / 2 ^ bits
+  pub stays : (a v : ℕ) → Has old a v → Has new a v
+  pub comes : (b v : ℕ) → b < bits → x < 192 → bitOf word b ≡ true → Has old (base + b) v → Has new x v
+  pub came : (a v : ℕ) → Has new a v → CameWord word base old x a v
+
+pub record TookWord (word base : ℕ) (old new : List ℕ) (x : ℕ) : Type 0 where
+  pub table : IsTable new
+  pub stays : (a v : ℕ) → Has old a v → Has new a v
+  pub comes : (b v : ℕ) → x < 192 → bitOf word b ≡ true → Has old (base + b) v → Has new x v
+  pub came : (a v : ℕ) → Has new a v → CameWord word base old x a v
+
+-- row x takes in every row that it leads to
+pub data CameRow (by old : List ℕ) (x a v : ℕ) : Type 0 where
+  at-once : Has old a v → CameRow by old x a v
+  taken : (u : ℕ) → a ≡ x → Has by x u → Has old u v → CameRow by old x a v
+
+pub record TookRow (by old new : List ℕ) (x : ℕ) : Type 0 where
+  pub table : IsTable new
+  pub stays : (a v : ℕ) → Has old a v → Has new a v
+  pub comes : (u v : ℕ) → Has by x u → Has old u v → Has new x v
+  pub came : (a v : ℕ) → Has new a v → CameRow by old x a v
 
 -- u itself, or one that it leads to, has v
 pub data Down (by t : List ℕ) (u v : ℕ) : Type 0 where
   at-once : Has t u v → Down by t u v
   below : (w : ℕ) → Has by u w → Has t w v → Down by t u v
 
--- row x has taken in the rows of the first k places that it leads to
-pub record LoweredTo (k concepts roles : ℕ) (by old new : List ℕ) (x : ℕ) : Type 0 where
-  pub table : IsTable new
-  pub stays : (a v : ℕ) → Has old a v → Has new a v
-  pub comes : (i v : ℕ) → i < k → Has by x (nodeAt concepts roles i) → Has old (nodeAt concepts roles i) v → Has new x v
-  pub came : Transitive by → (a v : ℕ) → Has new a v → Down by old a v
-
 -- the rows of the first k places have taken in all that they lead to
 pub record WidenedTo (k concepts roles : ℕ) (by old new : List ℕ) : Type 0 where
   pub table : IsTable new
   pub stays : (a v : ℕ) → Has old a v → Has new a v
-  pub comes : (i j v : ℕ) → i < k → j < countOf concepts roles → Has by (nodeAt concepts roles i) (nodeAt concepts roles j)
-      → Has old (nodeAt concepts roles j) v → Has new (nodeAt concepts roles i) v
+  pub comes : (i u v : ℕ) → i < k → Has by (nodeAt concepts roles i) u → Has old u v → Has new (nodeAt concepts roles i) v
   pub came : Transitive by → (a v : ℕ) → Has new a v → Down by old a v
 
 abbrev pub Widened : ℕ → ℕ → List ℕ → List ℕ → List ℕ → Type 0
@@ -59,24 +81,46 @@ pub data Either (t : List ℕ) (u v : ℕ) : Type 0 where
   this-way : Has t u v → Either t u v
   other-way : Has t v u → Either t u v
 
--- what x has, has x
-pub record MirroredOne (old new : List ℕ) (x y : ℕ) : Type 0 where
-  pub table : IsTable new
-  pub stays : (u v : ℕ) → Has old u v → Has new u v
-  pub comes : Has old x y → Has new y x
-  pub came : (u v : ℕ) → Has new u v → Either old u v
+-- row u takes x in, if the word's lowest bit is set
+pub data CameGiven (word : ℕ) (old : List ℕ) (x u a v : ℕ) : Type 0 where
+  at-once : Has old a v → CameGiven word old x u a v
+  given : a ≡ u → v ≡ x → word % 2 ≡ 1 → CameGiven word old x u a v
 
-pub record MirroredRow (k concepts roles : ℕ) (old new : List ℕ) (x : ℕ) : Type 0 where
+pub record GaveBit (word : ℕ) (old new : List ℕ) (x u : ℕ) : Type 0 where
+  pub table : IsTable new
+  pub stays : (a v : ℕ) → Has old a v → Has new a v
+  pub comes : x < 192 → u < 192 → word % 2 ≡ 1 → Has new u x
+  pub came : (a v : ℕ) → Has new a v → CameGiven word old x u a v
+
+-- the rows of the word's first bits have taken x in
+pub data CameGivenWord (word base : ℕ) (old : List ℕ) (x a v : ℕ) : Type 0 where
+  at-once : Has old a v → CameGivenWord word base old x a v
+  given : (b : ℕ) → b < 64 → a ≡ base + b → v ≡ x → bitOf word b ≡ true → CameGivenWord word base old x a v
+
+pub record GaveTo (bits rest word base : ℕ) (old new : List ℕ) (x : ℕ) : Type 0 where
+  pub table : IsTable new
+  pub left : rest ≡ word / 2 ^ bits
+  pub stays : (a v : ℕ) → Has old a v → Has new a v
+  pub comes : (b : ℕ) → b < bits → x < 192 → base + b < 192 → bitOf word b ≡ true → Has new (base + b) x
+  pub came : (a v : ℕ) → Has new a v → CameGivenWord word base old x a v
+
+pub record GaveWord (word base : ℕ) (old new : List ℕ) (x : ℕ) : Type 0 where
+  pub table : IsTable new
+  pub stays : (a v : ℕ) → Has old a v → Has new a v
+  pub comes : (b : ℕ) → x < 192 → base + b < 192 → bitOf word b ≡ true → Has new (base + b) x
+  pub came : (a v : ℕ) → Has new a v → CameGivenWord word base old x a v
+
+-- what x has, has x
+pub record MirroredRow (old new : List ℕ) (x : ℕ) : Type 0 where
   pub table : IsTable new
   pub stays : (u v : ℕ) → Has old u v → Has new u v
-  pub comes : (i : ℕ) → i < k → Has old x (nodeAt concepts roles i) → Has new (nodeAt concepts roles i) x
+  pub comes : (y : ℕ) → Has old x y → Has new y x
   pub came : (u v : ℕ) → Has new u v → Either old u v
 
 pub record MirroredTo (k concepts roles : ℕ) (old new : List ℕ) : Type 0 where
   pub table : IsTable new
   pub stays : (u v : ℕ) → Has old u v → Has new u v
-  pub comes : (i j : ℕ) → i < k → j < countOf concepts roles → Has old (nodeAt concepts roles i) (nodeAt concepts roles j)
-      → Has new (nodeAt concepts roles j) (nodeAt concepts roles i)
+  pub comes : (i y : ℕ) → i < k → Has old (nodeAt concepts roles i) y → Has new y (nodeAt concepts roles i)
   pub came : (u v : ℕ) → Has new u v → Either old u v
 
 abbrev pub Mirrored : ℕ → ℕ → List ℕ → List ℕ → Type 0

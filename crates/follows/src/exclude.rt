@@ -1,9 +1,13 @@
 // Exclusions: the written ones go down both sides along what is included; then each node that leads on to one that excludes itself does so too,
 // and these go down both sides as well.
 ghost use mathlib.Core.Path.{_≡_};
+ghost use Prim.Native.Nat.{_≤_};
 ghost use Rattle.follows.specs.Bits.{IsTable};
 ghost use Rattle.follows.specs.Listed.{countOf};
-ghost use Rattle.follows.specs.Lowering.{Lowered, LoweredTo, Widened, MirroredOne, MirroredRow, Mirrored, Spreads, EmptiedOne, EmptiedRow, EmptiedBy, EmptiedAll, Shuts};
+ghost use Rattle.follows.specs.Lowering.{TookBit, TookWord, TookRow, Widened, GaveBit, GaveWord, MirroredRow, Mirrored, Spreads, EmptiedOne, EmptiedRow, EmptiedBy, EmptiedAll, Shuts};
+use crate::bits::BITS;
+use crate::bits::NODES;
+use crate::bits::WORDS;
 use crate::bits::add;
 use crate::bits::get;
 use crate::bits::join;
@@ -11,28 +15,44 @@ use crate::listed::count;
 use crate::listed::node_at;
 use site::Declared;
 
-// Row x takes row u in, if `by` has u in row x.
-fn lower(t: &mut [u64; 576], by: &[u64; 576], x: usize, u: usize)
+// Row x takes row u in, if the word's lowest bit is set.
+fn take_bit(t: &mut [u64; 576], word: u64, x: usize, u: usize)
     requires { ⌜ IsTable (now t) ⌝ }
-    ensures { λ r. ⌜ Lowered (now (by .entry)) (now (t .entry)) (now (t .exit)) x u ⌝ }
+    ensures { λ r. ⌜ TookBit word (now (t .entry)) (now (t .exit)) x u ⌝ }
 {
-    if !get(by, x, u) {
+    if word % 2 != 1 {
         return;
     }
     join(t, x, u);
 }
 
-// Row x takes in every row that it leads to.
-fn lower_row(t: &mut [u64; 576], by: &[u64; 576], d: Declared, x: usize)
+// Row x takes in the rows of the word's bits; the row of bit 0 is `base`.
+fn take_word(t: &mut [u64; 576], word: u64, base: usize, x: usize)
     requires { ⌜ IsTable (now t) ⌝ }
-    ensures { λ r. ⌜ LoweredTo (countOf (d .concepts) (d .roles)) (d .concepts) (d .roles) (now (by .entry)) (now (t .entry)) (now (t .exit)) x ⌝ }
+    requires { ⌜ base ≤ 128 ⌝ }
+    ensures { λ r. ⌜ TookWord word base (now (t .entry)) (now (t .exit)) x ⌝ }
 {
-    let n = count(d);
-    let mut i = 0;
-    while i < n {
-        lower(t, by, x, node_at(d, i));
-        i += 1;
+    let mut rest = word;
+    let mut bits = 0;
+    while 0 < rest {
+        take_bit(t, rest, x, base + bits);
+        rest = rest / 2;
+        bits += 1;
     }
+}
+
+// Row x takes in every row that it leads to.
+fn lower_row(t: &mut [u64; 576], by: &[u64; 576], x: usize)
+    requires { ⌜ IsTable (now t) ⌝ }
+    ensures { λ r. ⌜ TookRow (now (by .entry)) (now (t .entry)) (now (t .exit)) x ⌝ }
+{
+    if x >= NODES {
+        return;
+    }
+    let a = x * WORDS;
+    take_word(t, by[a], 0, x);
+    take_word(t, by[a + 1], BITS, x);
+    take_word(t, by[a + 2], 2 * BITS, x);
 }
 
 // Every row takes in every row that it leads to.
@@ -43,33 +63,52 @@ fn widen(t: &mut [u64; 576], by: &[u64; 576], d: Declared)
     let n = count(d);
     let mut i = 0;
     while i < n {
-        lower_row(t, by, d, node_at(d, i));
+        lower_row(t, by, node_at(d, i));
         i += 1;
     }
 }
 
-// Row y takes x in, if row x has y.
-fn mirror_one(t: &mut [u64; 576], x: usize, y: usize)
+// Row u takes x in, if the word's lowest bit is set.
+fn give_bit(t: &mut [u64; 576], word: u64, x: usize, u: usize)
     requires { ⌜ IsTable (now t) ⌝ }
-    ensures { λ r. ⌜ MirroredOne (now (t .entry)) (now (t .exit)) x y ⌝ }
+    ensures { λ r. ⌜ GaveBit word (now (t .entry)) (now (t .exit)) x u ⌝ }
 {
-    if !get(t, x, y) {
+    if word % 2 != 1 {
         return;
     }
-    add(t, y, x);
+    add(t, u, x);
+}
+
+// The rows of the word's bits take x in; the row of bit 0 is `base`.
+fn give_word(t: &mut [u64; 576], word: u64, base: usize, x: usize)
+    requires { ⌜ IsTable (now t) ⌝ }
+    requires { ⌜ base ≤ 128 ⌝ }
+    ensures { λ r. ⌜ GaveWord word base (now (t .entry)) (now (t .exit)) x ⌝ }
+{
+    let mut rest = word;
+    let mut bits = 0;
+    while 0 < rest {
+        give_bit(t, rest, x, base + bits);
+        rest = rest / 2;
+        bits += 1;
+    }
 }
 
 // Whatever row x has takes x in.
-fn mirror_row(t: &mut [u64; 576], d: Declared, x: usize)
+fn mirror_row(t: &mut [u64; 576], x: usize)
     requires { ⌜ IsTable (now t) ⌝ }
-    ensures { λ r. ⌜ MirroredRow (countOf (d .concepts) (d .roles)) (d .concepts) (d .roles) (now (t .entry)) (now (t .exit)) x ⌝ }
+    ensures { λ r. ⌜ MirroredRow (now (t .entry)) (now (t .exit)) x ⌝ }
 {
-    let n = count(d);
-    let mut i = 0;
-    while i < n {
-        mirror_one(t, x, node_at(d, i));
-        i += 1;
+    if x >= NODES {
+        return;
     }
+    let a = x * WORDS;
+    let p = t[a];
+    let q = t[a + 1];
+    let r = t[a + 2];
+    give_word(t, p, 0, x);
+    give_word(t, q, BITS, x);
+    give_word(t, r, 2 * BITS, x);
 }
 
 // The table becomes symmetric.
@@ -80,7 +119,7 @@ fn mirror(t: &mut [u64; 576], d: Declared)
     let n = count(d);
     let mut i = 0;
     while i < n {
-        mirror_row(t, d, node_at(d, i));
+        mirror_row(t, node_at(d, i));
         i += 1;
     }
 }
