@@ -1,23 +1,23 @@
 -- What adding one pair after the other does, and which numbers the code's nodes have.
-use Prim.Native.Nat.{ℕ, zero, suc, _+_, _-_, _*_, _/_, _%_, _^_, _<_, _≤_}
+use Prim.Native.Nat.{ℕ, suc, _+_, _-_, _*_, _%_, _^_, _<_, _≤_}
 use mathlib.Core.Path.{_≡_, refl, sym, ap, subst, _∙_}
-use mathlib.Core.Bool.{Bool, true, false, false≢true, cond, _||_}
+use mathlib.Core.Bool.{Bool, true, false, cond}
 use mathlib.Core.Logic.{_⊎_, inl, inr}
 use mathlib.Core.List.{List, [], _∷_, _++_, append-nil, append-assoc, List·Memᴰ, List·Memᴰ·head, List·Memᴰ·tail, List·Memᴰ·not-nil, List·Memᴰ·append-cases, Memᴰ·append-left, Memᴰ·append-right}
 use native.Mathlib.Omega.{arith}
 use native.Mathlib.Numerals.{add-one}
 use native.Mathlib.Decide.{ℕ-discrete}
-use lib.Dec.{eqb, ltb}
+use lib.Dec.{ltb}
 use lib.Bits.{bitOr}
 use lib.Pow.{shl-exact}
-use borrow.Author.Tests.{lt-ltb, le-ltb, eq-eqb, ne-eqb}
+use borrow.Author.Tests.{ltb-false}
 use borrow.Author.Needs.{needs}
-use Rattle.site.specs.Kinds.{BasicRole, BasicConcept, Node, Rule, turned}
+use Rattle.site.specs.Kinds.{BasicRole, Node, Rule, turned}
 use Rattle.site.specs.Kinds.BasicRole.{forward, inverse}
 use Rattle.site.specs.Kinds.BasicConcept.{named, some}
 use Rattle.site.specs.Kinds.Node.{concept, role}
 use Rattle.site.specs.Kinds.Rule.{included, disjoint, roleIncluded, roleDisjoint, functional}
-use Rattle.site.specs.Codes.{roleOf, roleCode, conceptOf, conceptCode, nodeOf, nodeCode}
+use Rattle.site.specs.Codes.{roleOf, roleCode, conceptOf, conceptCode, nodeCode}
 use Rattle.site.specs.Lists.{upTo, each}
 use Rattle.site.specs.Told.{ruleTold}
 use Rattle.site.specs.declared.nodes.BasicRole.{BasicRole as RoleCode}
@@ -28,7 +28,7 @@ use Rattle.site.proofs.OfKinds.{role-even, role-odd}
 use Rattle.site.proofs.Lists.{or-cases, or-left, or-right}
 use Rattle.follows.specs.Bits.{bitOf, Has, IsTable, Added, CameAdded}
 use Rattle.follows.specs.Bits.CameAdded.{old-one, new-one}
-use Rattle.follows.specs.Tables.{Pair, arrowsOf, writtenOf}
+use Rattle.follows.specs.Tables.{Pair, arrowsOf}
 use Rattle.follows.specs.Adding.{CamePair, AddedAll, roleArrows, someArrows, inBothOrders, exclusionsOf, ring, rings, RingsTo, CameFunctional, FunctionalAdded}
 use Rattle.follows.specs.Adding.CamePair.{at-once, of-pair}
 use Rattle.follows.specs.Adding.CameFunctional.{at-once as was, of-rule}
@@ -49,7 +49,7 @@ concept-code b = step (ltb b 64) refl
     step : (low : Bool) → ltb b 64 ≡ low → conceptCode (cond low (named b) (some (roleOf (b - 64)))) ≡ b
     step true e = refl
     step false e =
-        let h = borrow.Author.Tests.ltb-false b 64 e in
+        let h = ltb-false b 64 e in
         let f = role-code (b - 64) in
         omega arith
 

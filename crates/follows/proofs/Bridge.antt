@@ -1,21 +1,20 @@
 -- The tables of bits hold what the relations on nodes hold, by the nodes' numbers: what was added is what the rules give, and a closure of
 -- numbers is the closure of their nodes.
-use Prim.Native.Nat.{ℕ, zero, suc, _+_, _*_, _/_, _%_, _<_, _≤_}
+use Prim.Native.Nat.{ℕ, _+_, _*_, _/_, _%_, _<_}
 use mathlib.Core.Path.{_≡_, refl, sym, ap, subst, subst₂, _∙_}
-use mathlib.Core.Bool.{Bool, true, false, false≢true, _||_}
+use mathlib.Core.Bool.{true, false≢true}
 use mathlib.Core.Logic.{_⊎_, inl, inr}
-use mathlib.Core.List.{List, [], _∷_, _++_, List·Memᴰ, List·Memᴰ·head, List·Memᴰ·tail, List·Memᴰ·not-nil, List·Memᴰ·append-cases, Memᴰ·append-left, Memᴰ·append-right}
+use mathlib.Core.List.{List, _++_, List·Memᴰ, List·Memᴰ·head, List·Memᴰ·tail, List·Memᴰ·not-nil, List·Memᴰ·append-cases, Memᴰ·append-left, Memᴰ·append-right}
 use native.Mathlib.Omega.{arith}
-use lib.ListN.{length, getD, replicate, getD-replicate}
-use lib.Dec.{ltb}
+use lib.ListN.{getD, getD-replicate}
 use borrow.Author.Tests.{lt-ltb, ltb-true}
-use Rattle.site.specs.Kinds.{BasicRole, BasicConcept, Node, Rule, Site, turned, roleIn, declared, declaredRole}
+use Rattle.site.specs.Kinds.{BasicRole, Node, Rule, Site, roleIn, declared, declaredRole}
 use Rattle.site.specs.Kinds.BasicRole.{forward, inverse}
-use Rattle.site.specs.Kinds.BasicConcept.{named, some}
+use Rattle.site.specs.Kinds.BasicConcept.{some}
 use Rattle.site.specs.Kinds.Node.{concept, role}
 use Rattle.site.specs.Codes.{nodeOf, nodeCode}
 use Rattle.site.specs.Lists.{upTo, each}
-use Rattle.site.proofs.Lists.{From, each-of, of-each, below-of-upTo, upTo-of-below, or-cases, or-left, or-right}
+use Rattle.site.proofs.Lists.{each-of, of-each, below-of-upTo, upTo-of-below, or-cases, or-left}
 use Rattle.rules.specs.Lawful.{Lawful}
 use Rattle.follows.specs.Bits.{bitOf, Has}
 use Rattle.follows.specs.Closed.{Closed}
@@ -33,9 +32,9 @@ use Rattle.follows.specs.Tells.{Blank}
 use Rattle.follows.proofs.Rows.{On}
 use Rattle.follows.proofs.Closing.{Reaches}
 use Rattle.follows.proofs.Declares.{node-in, node-out}
-use Rattle.follows.proofs.Laws.{Both, included-declared, excluded-declared}
-use Rattle.follows.proofs.Arrows.{Given, arrow-given, arrow-of, arrow-included, Leads, leads-included, included-leads}
-use Rattle.follows.proofs.Apart.{Three, of-mates, onward, LeadsOn, Across, Apart, Void, Kept, written-excludes, mates-lead, kept-excluded, excluded-kept}
+use Rattle.follows.proofs.Laws.{Both, included-declared, excluded-declared, declared-one-of}
+use Rattle.follows.proofs.Arrows.{arrow-given, arrow-of, arrow-included, leads-included, included-leads, closed-into}
+use Rattle.follows.proofs.Apart.{Three, of-mates, onward, LeadsOn, Across, Apart, Kept, written-excludes, mates-lead, kept-excluded, excluded-kept}
 use Rattle.follows.proofs.Apart.Across.{straight, crossed}
 use Rattle.follows.proofs.Apart.Kept.{by-written, by-void}
 use Rattle.follows.proofs.Words.{in-row, in-column, bit-there}
@@ -64,13 +63,6 @@ from-pair {pairs} {old} b p u v h = step (p .came u v h)
     step : CamePair pairs old u v → FromPair pairs u v
     step (at-once k) = absurd (blank-none old u v b k)
     step (of-pair a m e f) = record { pair = a; within = m; is-left = e; is-right = f }
-
--- a closure taken along a function into another closure
-closed-into : {A B : Type 0} {D : A → Type 0} {R : A → A → Type 0} {E : B → Type 0} {S : B → B → Type 0} (f : A → B) → ((x : A) → D x → E (f x)) → ((x y : A) → R x y → Closed E S (f x) (f y))
-    → {x y : A} → Closed D R x y → Closed E S (f x) (f y)
-closed-into f d r (here {x} m) = here (d x m)
-closed-into f d r (one {x} {y} h) = r x y h
-closed-into f d r (on p q) = on (closed-into f d r p) (closed-into f d r q)
 
 module _ (s : Site) (lawful : Lawful s) where
   abbrev c : ℕ
@@ -260,7 +252,7 @@ module _ (s : Site) (lawful : Lawful s) where
       ringed : Three m n → Reach c r new (nodeCode m) (nodeCode n)
       ringed t =
           let q = t .basic in
-          let h : roleIn q < r = ltb-true (roleIn q) r (Rattle.follows.proofs.Laws.declared-one-of s q (t .left) (node-out s m (o .from))) in
+          let h : roleIn q < r = ltb-true (roleIn q) r (declared-one-of s q (t .left) (node-out s m (o .from))) in
           on (to-first old new p (roleIn q) h (on-ring q (t .left))) (from-first old new p (roleIn q) h (on-ring q (t .right)))
 
       step : (arrow (s .rules) m n ≡ true) ⊎ (mates m n ≡ true) → Reach c r new (nodeCode m) (nodeCode n)
@@ -378,9 +370,6 @@ module _ (s : Site) (lawful : Lawful s) where
       meets-in : (x y : ℕ) → Apart s (nodeOf x) (nodeOf y) → Meets inc new x y
       meets-in x y a = step (a .ways)
         where
-          w : Pair
-          w = a .pair
-
           step : Across s (nodeOf x) (nodeOf y) (a .pair) → Meets inc new x y
           step (straight h k) =
               record {

@@ -1,7 +1,7 @@
 -- What each turn of the exclusions' passes does. They work in place: what a row has taken in already is lower down along the same order, which is
 -- transitive, so nothing new comes of it.
-use Prim.Native.Nat.{ℕ, zero, suc, _+_, _-_, _*_, _/_, _%_, _^_, _<_, _≤_}
-use mathlib.Core.Path.{_≡_, refl, sym, ap, subst, subst₂, _∙_}
+use Prim.Native.Nat.{ℕ, _+_, _-_, _*_, _/_, _%_, _^_, _<_, _≤_}
+use mathlib.Core.Path.{_≡_, sym, ap, subst, subst₂, _∙_}
 use mathlib.Core.Bool.{Bool, true, false, false≢true, not}
 use mathlib.Core.List.{List}
 use native.Mathlib.Omega.{arith}
@@ -17,7 +17,6 @@ use Rattle.follows.specs.Bits.{bitOf, has, Has, IsTable, Added, CameAdde
 use Rattle.follows.specs.Bits.CameAdded.{old-one, new-one}
 use Rattle.follows.specs.Bits.CameJoined.{old-one as old-join, from-row}
 use Rattle.follows.specs.Listed.{countOf, nodeAt, Listed}
-use Rattle.follows.specs.Passes.{Within}
 use Rattle.follows.specs.Lowering.{Transitive, Order, Even, CameBit, TookBit, CameWord, TookTo, TookWord, CameRow, TookRow, Down, WidenedTo, Widened, Either, CameGiven, GaveBit, CameGivenWord, GaveTo, GaveWord, MirroredRow, MirroredTo, Mirrored, Meets, Spreads, CameEmptied, EmptiedOne, EmptiedRow, Emptied, EmptiedBy, EmptiedTo, EmptiedAll, Shut, Shuts}
 use Rattle.follows.specs.Lowering.CameBit.{at-once as bit-stood, taken as bit-taken}
 use Rattle.follows.specs.Lowering.CameWord.{at-once as word-stood, taken as word-taken}

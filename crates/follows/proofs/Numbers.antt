@@ -1,19 +1,19 @@
 -- The numbers of the nodes: each number is a node's, each declared node has its number, and the declared numbers are those in the row without gaps.
-use Prim.Native.Nat.{ℕ, zero, suc, _+_, _-_, _*_, _/_, _%_, _<_, _≤_}
+use Prim.Native.Nat.{ℕ, _+_, _-_, _*_, _/_, _<_}
 use mathlib.Core.Path.{_≡_, refl, sym, ap, subst, _∙_}
 use mathlib.Core.Bool.{Bool, true, false, cond}
 use native.Mathlib.Omega.{arith}
 use native.Mathlib.Decide.{decLt}
 use lib.Dec.{ltb}
 use borrow.Author.Tests.{ltb-true, ltb-false, lt-ltb, le-ltb}
-use Rattle.site.specs.Kinds.{BasicRole, BasicConcept, Node, Site, roleIn, declared}
+use Rattle.site.specs.Kinds.{BasicRole, Node, Site, roleIn, declared}
 use Rattle.site.specs.Kinds.BasicRole.{forward, inverse}
 use Rattle.site.specs.Kinds.BasicConcept.{named, some}
 use Rattle.site.specs.Kinds.Node.{concept, role}
-use Rattle.site.specs.Codes.{roleOf, roleCode, conceptOf, conceptCode, nodeOf, nodeCode}
+use Rattle.site.specs.Codes.{roleOf, roleCode, conceptOf, nodeOf, nodeCode}
 use Rattle.site.proofs.OfKinds.{role-even, role-odd}
 use Rattle.rules.specs.Lawful.{Lawful}
-use Rattle.follows.specs.Listed.{countOf, nodeAt, Listed}
+use Rattle.follows.specs.Listed.{nodeAt, Listed}
 use Rattle.follows.proofs.Adds.{role-code, concept-code}
 
 -- a number's node has that number

@@ -1,7 +1,7 @@
 -- What each turn of the passes over a table does. Going through a node keeps the nodes before it gone through: of two entries that meet at one
 -- of those, each was there or came by way of the new node.
-use Prim.Native.Nat.{ℕ, zero, suc, _+_, _-_, _*_, _<_, _≤_}
-use mathlib.Core.Path.{_≡_, refl, sym, ap, subst, _∙_}
+use Prim.Native.Nat.{ℕ, _+_, _-_, _*_, _<_, _≤_}
+use mathlib.Core.Path.{_≡_, sym, ap, subst, _∙_}
 use mathlib.Core.Bool.{Bool, true, false, false≢true, not}
 use mathlib.Core.List.{List}
 use native.Mathlib.Omega.{arith}
@@ -11,13 +11,12 @@ use borrow.Author.Needs.{needs}
 use Rattle.follows.specs.Bits.{has, Has, IsTable, Added, CameAdded, Joined, CameJoined}
 use Rattle.follows.specs.Bits.CameAdded.{old-one, new-one}
 use Rattle.follows.specs.Bits.CameJoined.{old-one as old-join, from-row}
-use Rattle.follows.specs.Closed.{Closed}
 use Rattle.follows.specs.Closed.Closed.{here, one, on}
 use Rattle.follows.specs.Listed.{countOf, nodeAt, Listed}
 use Rattle.follows.specs.Passes.{Through, Pulled, PassedTo, Passed, CameReflected, ReflectedTo, Reflected, Within, Reach, TurnedTo, Turned, Closes}
 use Rattle.follows.specs.Passes.Through.{at-once, by-way}
 use Rattle.follows.specs.Passes.CameReflected.{at-once as stood, itself}
-use Rattle.follows.proofs.Words.{in-row, in-column}
+use Rattle.follows.proofs.Words.{in-row}
 
 -- the declared nodes
 module _ (c r : ℕ) where

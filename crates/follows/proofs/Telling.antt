@@ -1,7 +1,7 @@
 -- The filled tables say what the definition's tables say: both pass exactly where the relations hold.
 use Prim.Native.Nat.{ℕ, _<_}
 use mathlib.Core.Path.{_≡_, refl, sym, ap, subst, _∙_}
-use mathlib.Core.Bool.{Bool, true, false, false≢true}
+use mathlib.Core.Bool.{Bool, true, false}
 use mathlib.Core.List.{List}
 use lib.ListN.{replicate}
 use borrow.Author.Needs.{needs}
@@ -12,17 +12,16 @@ use Rattle.site.specs.declared.nodes.Declared.{Declared}
 use Rattle.rules.specs.Lawful.{Lawful}
 use Rattle.rules.specs.RuleFile.{rulesIn, siteOf}
 use Rattle.rules.specs.declared.head.Head.{Head}
-use Rattle.follows.specs.Bits.{bitOf, has, Has, IsTable}
+use Rattle.follows.specs.Bits.{bitOf, has}
 use Rattle.follows.specs.Passes.{Closes}
 use Rattle.follows.specs.Lowering.{Shuts}
 use Rattle.follows.specs.Tables.{arrowsOf, followsFrom, followsOf}
-use Rattle.follows.specs.Decides.{Decides}
 use Rattle.follows.specs.Adding.{AddedAll, exclusionsOf, rings}
 use Rattle.follows.specs.Tells.{Blank, FunctionalOf, Tells}
 use Rattle.follows.proofs.Arrows.{leads-included, included-leads}
 use Rattle.follows.proofs.Decided.{decides, functional-out, functional-in}
 use Rattle.follows.proofs.Numbers.{code-node, role-of-code}
-use Rattle.follows.proofs.Bridge.{Stands, included-based, on-based, excluded-out, excluded-in}
+use Rattle.follows.proofs.Bridge.{included-based, on-based, excluded-out, excluded-in}
 use Rattle.follows.proofs.Filling.{blank-table, zeros-table}
 
 -- two tests that pass together are the same

@@ -1,9 +1,9 @@
 -- What adding pairs of nodes to a table does, and which pairs a rule and a role give.
-use Prim.Native.Nat.{ℕ, _+_, _*_, _<_, _≤_}
+use Prim.Native.Nat.{ℕ, _<_, _≤_}
 use mathlib.Core.Path.{_≡_}
-use mathlib.Core.Bool.{Bool, true}
-use mathlib.Core.List.{List, [], _∷_, _++_, List·Memᴰ}
-use Rattle.site.specs.Kinds.{BasicRole, Node, Rule, turned}
+use mathlib.Core.Bool.{true}
+use mathlib.Core.List.{List, [], _∷_, List·Memᴰ}
+use Rattle.site.specs.Kinds.{BasicRole, Rule, turned}
 use Rattle.site.specs.Kinds.BasicRole.{forward, inverse}
 use Rattle.site.specs.Kinds.BasicConcept.{some}
 use Rattle.site.specs.Kinds.Node.{concept, role}
@@ -11,7 +11,7 @@ use Rattle.site.specs.Kinds.Rule.{functional}
 use Rattle.site.specs.Codes.{roleOf, nodeCode}
 use Rattle.site.specs.Lists.{upTo, each}
 use Rattle.follows.specs.Bits.{bitOf, Has, IsTable}
-use Rattle.follows.specs.Tables.{Pair, arrowsOf, writtenOf}
+use Rattle.follows.specs.Tables.{Pair, writtenOf}
 
 -- an entry was there, or is one of the pairs
 pub data CamePair (pairs : List Pair) (old : List ℕ) (u v : ℕ) : Type 0 where

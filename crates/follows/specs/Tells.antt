@@ -1,7 +1,7 @@
 -- What the filled tables say: the same as the definition's tables, by the nodes' numbers.
-use Prim.Native.Nat.{ℕ, _<_, _≤_}
+use Prim.Native.Nat.{ℕ, _<_}
 use mathlib.Core.Path.{_≡_}
-use mathlib.Core.Bool.{Bool, true}
+use mathlib.Core.Bool.{true}
 use mathlib.Core.List.{List, _++_, List·Memᴰ}
 use lib.ListN.{replicate}
 use Rattle.site.specs.Kinds.{Rule, Site}

@@ -1,5 +1,4 @@
 // Closing a table: the nodes are gone through one after the other, and each row that has a node takes that node's row in.
-ghost use mathlib.Core.Path.{_≡_};
 ghost use Rattle.follows.specs.Bits.{IsTable};
 ghost use Rattle.follows.specs.Passes.{Pulled, Passed, Reflected, Turned, Closes};
 use crate::bits::add;

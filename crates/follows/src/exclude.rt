@@ -1,6 +1,5 @@
 // Exclusions: the written ones go down both sides along what is included; then each node that leads on to one that excludes itself does so too,
 // and these go down both sides as well.
-ghost use mathlib.Core.Path.{_≡_};
 ghost use Prim.Native.Nat.{_≤_};
 ghost use Rattle.follows.specs.Bits.{IsTable};
 ghost use Rattle.follows.specs.Listed.{countOf};

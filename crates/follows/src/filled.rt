@@ -1,5 +1,4 @@
 // The tables of a rule file, from its bytes.
-ghost use mathlib.Core.Path.{_≡_};
 ghost use Rattle.site.specs.Lists.{each};
 ghost use Rattle.rules.specs.RuleFile.{rulesIn, siteOf};
 ghost use Rattle.follows.specs.Bits.{IsTable};

@@ -1,6 +1,5 @@
 // What a rule puts into the tables: its arrows, its written exclusions, its functional role; and step 8's ring of each role.
 ghost use mathlib.Core.Path.{_≡_};
-ghost use mathlib.Core.List.{[], _∷_};
 ghost use Rattle.site.specs.Kinds.Node.{concept, role};
 ghost use Rattle.site.specs.Kinds.BasicConcept.{some};
 ghost use Rattle.site.specs.Kinds.Rule.{roleIncluded, roleDisjoint, functional};

@@ -1,3 +1,4 @@
+-- The loop's invariant: the rows of the places passed have taken row m in, if they have m.
 use Rattle.follows.proofs.Passes.{passes}
 use Prim.Native.Nat.{_-_}
 use Rattle.follows.specs.Passes.{PassedTo}

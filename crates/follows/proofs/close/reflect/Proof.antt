@@ -1,3 +1,4 @@
+-- The loop's invariant: the nodes of the places passed have themselves in their rows.
 use Rattle.follows.proofs.Passes.{passes}
 use Prim.Native.Nat.{_-_}
 use Rattle.follows.specs.Passes.{ReflectedTo}

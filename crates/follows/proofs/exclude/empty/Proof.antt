@@ -1,3 +1,4 @@
+-- The loop's invariant: each node that leads on to one of the places passed that excludes itself excludes itself.
 use Rattle.follows.proofs.Lowers.{lowers}
 use Prim.Native.Nat.{_-_}
 use Rattle.follows.specs.Lowering.{EmptiedTo}

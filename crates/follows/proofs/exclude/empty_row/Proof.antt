@@ -1,3 +1,4 @@
+-- The loop's invariant: the nodes of the places passed exclude themselves, if they lead on to w.
 use Rattle.follows.proofs.Lowers.{lowers}
 use Prim.Native.Nat.{_-_}
 use Rattle.follows.specs.Lowering.{EmptiedRow}

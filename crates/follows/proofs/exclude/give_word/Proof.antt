@@ -1,3 +1,4 @@
+-- The loop's invariant: the rows of the bits passed have taken x in, and `rest` is the word without those bits.
 use Rattle.follows.proofs.Lowers.{lowers}
 use Rattle.follows.specs.Lowering.{GaveTo}
 use Rattle.follows.proofs.exclude.give_word.Statement.{statement}

@@ -1,3 +1,4 @@
+-- The loop's invariant: what the rows of the places passed have, has them.
 use Rattle.follows.proofs.Lowers.{lowers}
 use Prim.Native.Nat.{_-_}
 use Rattle.follows.specs.Lowering.{MirroredTo}

@@ -1,3 +1,4 @@
+-- The loop's invariant: row x has taken in the rows of the bits passed, and `rest` is the word without those bits.
 use Rattle.follows.proofs.Lowers.{lowers}
 use Rattle.follows.specs.Lowering.{TookTo}
 use Rattle.follows.proofs.exclude.take_word.Statement.{statement}

@@ -1,3 +1,4 @@
+-- The loop's invariant: the rows of the places passed have taken in all that they lead to.
 use Rattle.follows.proofs.Lowers.{lowers}
 use Prim.Native.Nat.{_-_}
 use Rattle.follows.specs.Lowering.{WidenedTo}

@@ -1,3 +1,4 @@
+-- What each call has ensured, handed to the law on the whole.
 use Rattle.follows.proofs.Telling.{telling, filled-all}
 use Rattle.follows.proofs.filled.fill.Statement.{statement}
 use Rattle.follows.proofs.filled.fill.Tie as tie

@@ -1,3 +1,4 @@
+-- The loop's invariant: the bits are those of the functional rules before the place, and those rules and the ones left are all the rules.
 use Rattle.follows.proofs.Filling.{filling}
 use Rattle.rules.specs.RuleFile.{rulesIn}
 use Rattle.follows.specs.Tells.{FunctionalSoFar}

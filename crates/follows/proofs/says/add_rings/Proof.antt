@@ -1,3 +1,4 @@
+-- The loop's invariant: the rings of the roles passed are in the table.
 use Rattle.follows.proofs.Adds.{adds}
 use Prim.Native.Nat.{_-_}
 use Rattle.follows.specs.Adding.{RingsTo}
