@@ -1,1 +1,2 @@
+pub mod OfTypes
 pub mod Cases

@@ -10,13 +10,14 @@ use native.Mathlib.Omega.{arith}
 use Rattle.site.specs.declared.fact.Fact.{Fact}
 use Rattle.site.specs.Kinds.{Site}
 use Rattle.site.specs.Lists.{any}
+use Rattle.site.proofs.Lists.{Passing, any-found, any-of, Kept, keep-found, and-left, and-right, and-both, either, is-false, true-not-false}
 use Rattle.rules.specs.Lawful.{Lawful}
 use Rattle.follows.specs.Tables.{Follows}
 use Rattle.follows.specs.Decides.{Decides}
 use Rattle.clean.specs.Marks.{alone, clash, mark, marked, kept}
 use Rattle.worlds.specs.Worlds.{Consistent, LeftOut}
-use Rattle.worlds.proofs.OfLists.{Within, within-cons, within-nil, Passes, any-some, some-any, keep-some, and-left, and-right, and-both, either, is-false, true-not-false}
-use Rattle.worlds.proofs.OfTypes.{Against, contradict-against, against-contradict, alone-against, against-alone}
+use Rattle.worlds.proofs.OfLists.{Within, within-cons, within-nil}
+use Rattle.clean.proofs.OfTypes.{Against, contradict-against, against-contradict, alone-against, against-alone}
 use Rattle.worlds.proofs.Told.{Peaceful, peaceful-nil, peaceful-cons}
 use Rattle.worlds.proofs.Repairs.{Spoils, spoils-left-out, left-out-spoils}
 use Rattle.worlds.proofs.Consistency.{AllFit, consistent-peaceful, peaceful-consistent, fewer-consistent, decide-consistent}
@@ -47,7 +48,7 @@ module _ (ρ : ℕ → ℕ) (s : Site) (t : Follows) (law : Lawful s) (d : Decid
       let not-f : alone ρ t f ≡ false = is-false (alone-mark f h) in
       let not-g : alone ρ t g ≡ false = is-false (λ e. n (alone-against ρ s t d g e)) in
       clash-mark f h not-f
-      (some-any (clash ρ t f) m
+      (any-of (clash ρ t f) m
       (and-both _ _ (and-both _ _ (ap not not-f) (ap not not-g)) (against-contradict ρ s t d a)))
 
   -- a dropped fact spoils a consistent set, and only such a fact does
@@ -66,10 +67,10 @@ module _ (ρ : ℕ → ℕ) (s : Site) (t : Follows) (law : Lawful s) (d : Decid
                 (alone-against ρ s t d f e);
           }
 
-      clash-spoils : Passes (clash ρ t f) facts → Spoils (Consistent ρ s) facts f
+      clash-spoils : Passing (clash ρ t f) facts → Spoils (Consistent ρ s) facts f
       clash-spoils k =
-          let g = k .element in
-          let only-g : Within (g ∷ []) facts = within-cons (k .member) within-nil in
+          let g = k .one in
+          let only-g : Within (g ∷ []) facts = within-cons (k .within) within-nil in
           let quiet = and-left (not (alone ρ t f) && not (alone ρ t g)) _ (k .passes) in
           let not-g = not-true _ (and-right (not (alone ρ t f)) _ quiet) in
           record {
@@ -86,7 +87,7 @@ module _ (ρ : ℕ → ℕ) (s : Site) (t : Follows) (law : Lawful s) (d : Decid
       go : (alone ρ t f ≡ true) ⊎ (alone ρ t f ≡ false) → (any (clash ρ t f) facts ≡ true) ⊎ (any (clash ρ t f) facts ≡ false)
           → Spoils (Consistent ρ s) facts f
       go (inl e) c = alone-spoils e
-      go (inr e) (inl c) = clash-spoils (any-some (clash ρ t f) facts c)
+      go (inr e) (inl c) = clash-spoils (any-found (clash ρ t f) facts c)
       go (inr e) (inr c) = absurd (h (unmarked f e c))
 
   spoils-dropped : (f : Fact) → List·Memᴰ f facts → Spoils (Consistent ρ s) facts f → mark ρ t facts f ≡ 0 → ⊥
@@ -113,16 +114,16 @@ module _ (ρ : ℕ → ℕ) (s : Site) (t : Follows) (law : Lawful s) (d : Decid
           (l .2))
 
   -- (2) the kept facts are consistent
-  pub kept-fact : (f : Fact) → List·Memᴰ f (kept ρ t facts) → List·Memᴰ f facts × (marked ρ t facts 0 f ≡ true)
+  pub kept-fact : (f : Fact) → List·Memᴰ f (kept ρ t facts) → Kept (marked ρ t facts 0) f facts
   unfolding kept
-  kept-fact f m = keep-some (marked ρ t facts 0) facts m
+  kept-fact f m = keep-found (marked ρ t facts 0) facts m
 
   kept-mark : (f : Fact) → List·Memᴰ f (kept ρ t facts) → mark ρ t facts f ≡ 0
   unfolding marked
-  kept-mark f m = eqb-true _ _ (kept-fact f m .1)
+  kept-mark f m = eqb-true _ _ (kept-fact f m .passes)
 
   pub kept-within : Within (kept ρ t facts) facts
-  kept-within f m = kept-fact f m .0
+  kept-within f m = kept-fact f m .within
 
   pub kept-peaceful : Peaceful ρ s (kept ρ t facts)
   kept-peaceful f g m k = kept-clash f g (kept-within g k) (kept-mark f m) (kept-alone g (kept-mark g k))

@@ -1,6 +1,5 @@
 pub mod OfLists
 pub mod OfNodes
-pub mod OfTypes
 pub mod Sound
 pub mod Chase
 pub mod Repairs
