@@ -1,2 +1,4 @@
 pub mod OfTypes
 pub mod Cases
+pub mod OfTests
+pub mod OfTypeCodes

@@ -1,3 +1,4 @@
-pub mod Types
+pub mod Coded
 pub mod Marks
 pub mod Operations
+pub mod Types

@@ -1,0 +1,49 @@
+-- The same tests over numbers: types by the numbers of their nodes, and what follows as tables of bits.
+use Prim.Native.Nat.{ℕ, _+_, _-_, _*_}
+use mathlib.Core.Bool.{Bool, true, false, cond, _&&_, _||_, not}
+use mathlib.Core.List.{List, map}
+use lib.Dec.{eqb, ltb}
+use Rattle.site.specs.declared.fact.Fact.{Fact}
+use Rattle.site.specs.Kinds.{ofConcept}
+use Rattle.site.specs.Codes.{nodeCode, roleCode}
+use Rattle.follows.specs.Bits.{has, bitOf}
+use Rattle.follows.specs.Tables.{Follows}
+use Rattle.clean.specs.Types.{Typ as SaidTyp, typesOf, itself}
+use Rattle.clean.specs.declared.types.Typ.{Typ}
+
+-- a type by its node's number
+abbrev pub code : SaidTyp → Typ
+code x = record { node = nodeCode (x .node); from = x .from; to = x .to }
+
+unfoldable pub codedTypes : Fact → List Typ
+codedTypes f = map code (typesOf itself f)
+
+-- a word's bit for a basic role
+unfoldable pub hasRole : ℕ → ℕ → Bool
+hasRole word q = ltb q 64 && bitOf word q
+
+-- what follows, as the tables say it: a table of what is included, one of what is excluded, and a word of the functional basic roles
+abbrev pub bitsFollow : List ℕ → List ℕ → ℕ → Follows
+bitsFollow included excluded functional =
+    record {
+      isIncluded = λ x y. has included (nodeCode x) (nodeCode y);
+      isExcluded = λ x y. has excluded (nodeCode x) (nodeCode y);
+      isFunctional = λ q. hasRole functional (roleCode q);
+    }
+
+-- two types at one place that exclude each other
+abbrev pub jarCoded : List ℕ → Typ → Typ → Bool
+jarCoded excluded x y = eqb (x .from) (y .from) && eqb (x .to) (y .to) && has excluded (x .node) (y .node)
+
+-- two facts of one role that a functional direction of it forbids together
+unfoldable pub splitCoded : ℕ → Fact → Fact → Bool
+splitCoded functional f g =
+    not (ofConcept f) && not (ofConcept g) && eqb (f .predicate) (g .predicate)
+    && (hasRole functional (2 * (f .predicate - 64)) && eqb (f .subject) (g .subject) && not (eqb (f .object) (g .object))
+    || hasRole functional (2 * (f .predicate - 64) + 1) && eqb (f .object) (g .object) && not (eqb (f .subject) (g .subject)))
+
+-- two facts that have no thing in common
+unfoldable pub far : Fact → Fact → Bool
+far f g =
+    not (eqb (f .subject) (g .subject)) && not (eqb (f .subject) (g .object)) && not (eqb (f .object) (g .subject))
+    && not (eqb (f .object) (g .object))
