@@ -1,6 +1,8 @@
 // Cleaning a bundle.
 mod answers;
 mod clash;
+mod judge;
+mod search;
 mod types;
 
 pub use answers::Counts;
