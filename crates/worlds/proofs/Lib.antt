@@ -9,4 +9,5 @@ pub mod Consistency
 pub mod Dropped
 pub mod Answered
 pub mod WorldsDecide
+pub mod Demand
 pub mod Endless
