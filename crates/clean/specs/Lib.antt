@@ -1,4 +1,5 @@
 pub mod Coded
 pub mod Marks
 pub mod Operations
+pub mod Tally
 pub mod Types

@@ -2,6 +2,7 @@
 mod answers;
 mod clash;
 mod judge;
+mod row;
 mod search;
 mod types;
 
