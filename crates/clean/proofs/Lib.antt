@@ -1,6 +1,7 @@
 pub mod OfTypes
 pub mod Cases
 pub mod OfTests
+pub mod OfAsking
 pub mod OfJudging
 pub mod OfRows
 pub mod OfSearch

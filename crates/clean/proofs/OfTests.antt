@@ -18,20 +18,20 @@ use Rattle.follows.specs.Bits.{has as hasBit, bitOf}
 use Rattle.follows.specs.Tables.{Follows}
 use Rattle.clean.specs.Types.{Typ as SaidTyp, typesOf, itself, conceptTypes, roleTypes}
 use Rattle.clean.specs.Marks.{samePlace, functionalNode, jar, split, meet, alone, contradict, clash}
-use Rattle.clean.specs.Coded.{code, codedTypes, hasRole, bitsFollow, jarCoded, splitCoded, far}
+use Rattle.clean.specs.Coded.{code, codedTypes, hasRole, bitsFollow, relatedAt, splitCoded, far}
 use Rattle.clean.specs.declared.types.Typ.{Typ}
 use Rattle.clean.proofs.OfTypes.{TypeOf, meet-some}
 use Rattle.clean.proofs.OfTypes.TypeOf.{is-a, has, had, joins, joined}
 
 -- two types
 module _ (excluded : List ℕ) (x y : Typ) where
-  pub jar-from : (x .from ≡ y .from → ⊥) → false ≡ jarCoded excluded x y
+  pub jar-from : (x .from ≡ y .from → ⊥) → false ≡ relatedAt excluded x y
   jar-from h = rw (ne-eqb (x .from) (y .from) h)
 
-  pub jar-to : x .from ≡ y .from → (x .to ≡ y .to → ⊥) → false ≡ jarCoded excluded x y
+  pub jar-to : x .from ≡ y .from → (x .to ≡ y .to → ⊥) → false ≡ relatedAt excluded x y
   jar-to e h = rw (ne-eqb (x .to) (y .to) h, and-false)
 
-  pub jar-both : x .from ≡ y .from → x .to ≡ y .to → (r : Bool) → r ≡ hasBit excluded (x .node) (y .node) → r ≡ jarCoded excluded x y
+  pub jar-both : x .from ≡ y .from → x .to ≡ y .to → (r : Bool) → r ≡ hasBit excluded (x .node) (y .node) → r ≡ relatedAt excluded x y
   jar-both e f r is = rw (eq-eqb (x .from) (y .from) e, eq-eqb (x .to) (y .to) f) is
 
 -- a test of what is coded
@@ -41,11 +41,11 @@ any-map p h [] = refl
 any-map p h (x ∷ xs) = ap (λ (b : Bool). p (h x) || b) (any-map p h xs)
 
 module _ (included excluded : List ℕ) (functional : ℕ) (f g : Fact) where
-  pub jar-meet : any (λ x. any (jarCoded excluded x) (codedTypes g)) (codedTypes f) ≡ meet itself (jar (bitsFollow included excluded functional)) f g
+  pub jar-meet : any (λ x. any (relatedAt excluded x) (codedTypes g)) (codedTypes f) ≡ meet itself (jar (bitsFollow included excluded functional)) f g
   unfolding meet jar codedTypes
   jar-meet = simp any-map
 
-pub jar-alone : (excluded : List ℕ) (f : Fact) (r : Bool) → r ≡ any (λ x. any (jarCoded excluded x) (codedTypes f)) (codedTypes f)
+pub jar-alone : (excluded : List ℕ) (f : Fact) (r : Bool) → r ≡ any (λ x. any (relatedAt excluded x) (codedTypes f)) (codedTypes f)
     → r ≡ alone itself (bitsFollow [] excluded 0) f
 unfolding alone
 jar-alone excluded f r e = e ∙ jar-meet [] excluded 0 f f
@@ -210,7 +210,7 @@ module _ (excluded : List ℕ) (functional : ℕ) (f g : Fact) where
       let is-far : far f g ≡ true = sym is ∙ e in
       rw (far-meet f g is-far (jar t) (jar-starts t), far-meet f g is-far (split t) (split-starts t))
 
-  module _ (r : Bool) (is : r ≡ any (λ x. any (jarCoded excluded x) (codedTypes g)) (codedTypes f)) where
+  module _ (r : Bool) (is : r ≡ any (λ x. any (relatedAt excluded x) (codedTypes g)) (codedTypes f)) where
     pub contradict-jar : r ≡ true → true ≡ contradict itself (bitsFollow [] excluded functional) f g
     unfolding contradict
     contradict-jar e = rw (← (jar-meet [] excluded functional f g), ← is, e)

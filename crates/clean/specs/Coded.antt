@@ -1,14 +1,18 @@
 -- The same tests over numbers: types by the numbers of their nodes, and what follows as tables of bits.
 use Prim.Native.Nat.{ℕ, _+_, _-_, _*_}
 use mathlib.Core.Bool.{Bool, true, false, cond, _&&_, _||_, not}
-use mathlib.Core.List.{List, map}
+use mathlib.Core.List.{List, [], map}
 use lib.Dec.{eqb, ltb}
 use Rattle.site.specs.declared.fact.Fact.{Fact}
 use Rattle.site.specs.Kinds.{ofConcept}
 use Rattle.site.specs.Codes.{nodeCode, roleCode}
+use Rattle.site.specs.Lists.{any, first}
+use Rattle.bundle.specs.Bundle.{factsOf}
+use Rattle.bundle.specs.declared.facts.Facts.{Facts}
 use Rattle.follows.specs.Bits.{has, bitOf}
 use Rattle.follows.specs.Tables.{Follows}
 use Rattle.clean.specs.Types.{Typ as SaidTyp, typesOf, itself}
+use Rattle.clean.specs.Marks.{marked}
 use Rattle.clean.specs.declared.types.Typ.{Typ}
 
 -- a type by its node's number
@@ -31,9 +35,9 @@ bitsFollow included excluded functional =
       isFunctional = λ q. hasRole functional (roleCode q);
     }
 
--- two types at one place that exclude each other
-abbrev pub jarCoded : List ℕ → Typ → Typ → Bool
-jarCoded excluded x y = eqb (x .from) (y .from) && eqb (x .to) (y .to) && has excluded (x .node) (y .node)
+-- two types at one place that a table relates
+abbrev pub relatedAt : List ℕ → Typ → Typ → Bool
+relatedAt table x y = eqb (x .from) (y .from) && eqb (x .to) (y .to) && has table (x .node) (y .node)
 
 -- two facts of one role that a functional direction of it forbids together
 unfoldable pub splitCoded : ℕ → Fact → Fact → Bool
@@ -47,3 +51,15 @@ unfoldable pub far : Fact → Fact → Bool
 far f g =
     not (eqb (f .subject) (g .subject)) && not (eqb (f .subject) (g .object)) && not (eqb (f .object) (g .subject))
     && not (eqb (f .object) (g .object))
+
+-- a fact one of whose types, at the asked place, is included in the asked node
+abbrev pub supportsCoded : List ℕ → Typ → Fact → Bool
+supportsCoded included asked f = any (λ x. relatedAt included x asked) (codedTypes f)
+
+-- the lowest-numbered kept fact that supports; else the count
+unfoldable pub supportIn : List ℕ → List ℕ → ℕ → List ℕ → Facts → Typ → ℕ
+supportIn included excluded functional bundle facts asked =
+    first (facts .count)
+    (λ f. marked itself (bitsFollow [] excluded functional) (factsOf bundle facts) 0 f && supportsCoded included asked f)
+    0
+    (factsOf bundle facts)

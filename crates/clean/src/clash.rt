@@ -6,7 +6,7 @@ ghost use lib.Dec.{eqb};
 ghost use Rattle.site.specs.Lists.{any};
 ghost use Rattle.clean.specs.Types.{itself};
 ghost use Rattle.clean.specs.Marks.{alone, contradict, clash};
-ghost use Rattle.clean.specs.Coded.{codedTypes, jarCoded, hasRole, splitCoded, far, bitsFollow};
+ghost use Rattle.clean.specs.Coded.{codedTypes, relatedAt, hasRole, splitCoded, far, bitsFollow};
 use crate::types::Typ;
 use crate::types::back_partner_type;
 use crate::types::back_role_type;
@@ -18,9 +18,9 @@ use follows::get;
 use site::BasicRole;
 use site::Fact;
 
-// Two types at one place that exclude each other.
-fn jar(excluded: &[u64; 576], x: Typ, y: Typ) -> bool
-    ensures { λ r. ⌜ r ≡ jarCoded (now (excluded .entry)) x y ⌝ }
+// Two types at one place that a table relates.
+pub fn related(table: &[u64; 576], x: Typ, y: Typ) -> bool
+    ensures { λ r. ⌜ r ≡ relatedAt (now (table .entry)) x y ⌝ }
 {
     if x.from != y.from {
         return false;
@@ -28,31 +28,31 @@ fn jar(excluded: &[u64; 576], x: Typ, y: Typ) -> bool
     if x.to != y.to {
         return false;
     }
-    get(excluded, x.node, y.node)
+    get(table, x.node, y.node)
 }
 
 // A type that jars with some type of a fact.
 fn jar_with(excluded: &[u64; 576], x: Typ, g: Fact) -> bool
-    ensures { λ r. ⌜ r ≡ any (jarCoded (now (excluded .entry)) x) (codedTypes g) ⌝ }
+    ensures { λ r. ⌜ r ≡ any (relatedAt (now (excluded .entry)) x) (codedTypes g) ⌝ }
 {
     if g.of_concept() {
-        return jar(excluded, x, concept_type(g));
+        return related(excluded, x, concept_type(g));
     }
-    if jar(excluded, x, partner_type(g)) {
+    if related(excluded, x, partner_type(g)) {
         return true;
     }
-    if jar(excluded, x, back_partner_type(g)) {
+    if related(excluded, x, back_partner_type(g)) {
         return true;
     }
-    if jar(excluded, x, role_type(g)) {
+    if related(excluded, x, role_type(g)) {
         return true;
     }
-    jar(excluded, x, back_role_type(g))
+    related(excluded, x, back_role_type(g))
 }
 
 // Some type of one fact that jars with some type of another.
 fn jar_facts(excluded: &[u64; 576], f: Fact, g: Fact) -> bool
-    ensures { λ r. ⌜ r ≡ any (λ x. any (jarCoded (now (excluded .entry)) x) (codedTypes g)) (codedTypes f) ⌝ }
+    ensures { λ r. ⌜ r ≡ any (λ x. any (relatedAt (now (excluded .entry)) x) (codedTypes g)) (codedTypes f) ⌝ }
 {
     if f.of_concept() {
         return jar_with(excluded, concept_type(f), g);

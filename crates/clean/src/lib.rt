@@ -2,8 +2,10 @@
 mod answers;
 mod clash;
 mod judge;
+mod pick;
 mod row;
 mod search;
+mod support;
 mod types;
 
 pub use answers::Counts;

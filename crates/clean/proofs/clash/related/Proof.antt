@@ -1,9 +1,9 @@
 use Rattle.clean.proofs.OfTests.{clashing}
-use Rattle.clean.proofs.clash.jar.Statement.{statement}
-use Rattle.clean.proofs.clash.jar.Tie as tie
+use Rattle.clean.proofs.clash.related.Statement.{statement}
+use Rattle.clean.proofs.clash.related.Tie as tie
 
-pub jar-spec : {M : Type 1} → statement M
-jar-spec =
+pub related-spec : {M : Type 1} → statement M
+related-spec =
     tie.close
     (tie.spec
     (λ c. search clashing)
