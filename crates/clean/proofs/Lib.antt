@@ -1,2 +1,4 @@
 pub mod OfTypes
+pub mod OfClash
+pub mod OfMarks
 pub mod Cases
