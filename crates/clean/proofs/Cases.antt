@@ -16,7 +16,7 @@ use Rattle.bundle.specs.Records.{roomFor}
 use Rattle.follows.specs.Tables.{rolesOf, nodesOf, arrow, mates, find, rowsOf, looked, through, closure, apart, empty, excludes, functionalIn, excludedRows, followsFrom, followsOf}
 use Rattle.clean.specs.Types.{typesOf}
 use Rattle.clean.specs.Marks.{jar, split, meet, alone, contradict, clash, mark, partner, marks, partners, marked, counts, kept, supports, support}
-use Rattle.clean.specs.Operations.{given, roomForMarks, marking, counting, replyOf, having, joining, keeping, Marked, Reply}
+use Rattle.clean.specs.Operations.{given, roomForMarks, marking, counting, replyOf, having, joining, keeping, Reply}
 use Rattle.clean.specs.Operations.Reply.{yes-by, none}
 use Rattle.clean.specs.declared.answers.Counts.{Counts}
 

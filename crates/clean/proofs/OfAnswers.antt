@@ -1,6 +1,6 @@
 -- Answers: the number that supports a question is below the count exactly if some kept fact supports it, and then it is the lowest such.
 use Prim.Native.Nat.{ℕ, _<_}
-use mathlib.Core.Path.{_≡_, refl, subst}
+use mathlib.Core.Path.{_≡_, subst}
 use mathlib.Core.Bool.{Bool, true, false, _&&_}
 use mathlib.Core.Logic.{_↔_}
 use mathlib.Core.List.{List, List·Memᴰ}
@@ -9,8 +9,8 @@ use lib.Dec.{eqb}
 use borrow.Author.Tests.{eqb-true, eq-eqb}
 use native.Mathlib.Omega.{arith}
 use Rattle.site.specs.declared.fact.Fact.{Fact}
-use Rattle.site.specs.Lists.{any, first}
-use Rattle.site.proofs.Lists.{Passing, any-found, any-of, and-left, and-right, and-both, is-false, true-not-false, FirstAt, first-found, first-of}
+use Rattle.site.specs.Lists.{first}
+use Rattle.site.proofs.Lists.{any-found, any-of, and-left, and-right, and-both, is-false, true-not-false, FirstAt, first-found, first-of}
 use Rattle.follows.specs.Tables.{Follows}
 use Rattle.clean.specs.Types.{Typ}
 use Rattle.clean.specs.Marks.{mark, marked, supports, support}

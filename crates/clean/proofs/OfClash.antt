@@ -1,7 +1,7 @@
 -- Clash: it is symmetric, no fact clashes with itself, and a fact that is alone clashes with none.
 use Prim.Native.Nat.{ℕ}
-use mathlib.Core.Path.{_≡_, ap, refl}
-use mathlib.Core.Bool.{Bool, true, false, not, _&&_}
+use mathlib.Core.Path.{_≡_, ap}
+use mathlib.Core.Bool.{true, false, not, _&&_}
 use mathlib.Core.Logic.{_↔_}
 use borrow.Author.Tests.{not-true}
 use Rattle.site.specs.declared.fact.Fact.{Fact}

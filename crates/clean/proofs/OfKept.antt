@@ -1,21 +1,20 @@
 -- The kept facts: those of mark 0, in order; so a bundle may hold them if it may hold the facts, since facts that ascend still do when
 -- some are left out.
-use Prim.Native.Nat.{ℕ, _≤_}
+use Prim.Native.Nat.{ℕ}
 use mathlib.Core.Path.{_≡_, refl}
 use mathlib.Core.Bool.{Bool, true, false, cond}
 use mathlib.Core.Logic.{_↔_}
-use mathlib.Core.List.{List, [], _∷_, List·Memᴰ}
-use lib.ListN.{length}
+use mathlib.Core.List.{List, _∷_, List·Memᴰ}
 use borrow.Author.Tests.{eqb-true, eq-eqb}
 use native.Mathlib.Omega.{arith}
 use Rattle.site.specs.declared.fact.Fact.{Fact}
-use Rattle.site.specs.Lists.{count, keep}
+use Rattle.site.specs.Lists.{keep}
 use Rattle.site.proofs.Lists.{keep-found, keep-of, length-keep, count-within}
 use Rattle.site.proofs.Order.{below-trans}
 use Rattle.rules.specs.declared.head.Head.{Head}
 use Rattle.bundle.specs.Bundle.{Last, ascends}
 use Rattle.bundle.specs.Bundle.Last.{none, after}
-use Rattle.bundle.specs.Lawful.{LawfulFact, LawfulFrom, LawfulFacts}
+use Rattle.bundle.specs.Lawful.{LawfulFrom, LawfulFacts}
 use Rattle.bundle.specs.Lawful.LawfulFrom.{done, next}
 use Rattle.follows.specs.Tables.{Follows}
 use Rattle.clean.specs.Marks.{mark, marked, kept}

@@ -1,7 +1,7 @@
 -- Partners: a disputed fact's is the lowest-numbered fact that clashes with it, another than itself and disputed too; kept and alone facts
 -- have none.
 use Prim.Native.Nat.{ℕ, _<_, _≤_}
-use mathlib.Core.Path.{_≡_, refl, sym, ap, _∙_, subst}
+use mathlib.Core.Path.{_≡_, ap, _∙_, subst}
 use mathlib.Core.Bool.{true, false}
 use mathlib.Core.Logic.{_↔_}
 use mathlib.Core.List.{List, List·Memᴰ}
@@ -11,7 +11,7 @@ use Rattle.site.specs.declared.fact.Fact.{Fact}
 use Rattle.site.specs.Kinds.{Site}
 use Rattle.site.specs.Limits.{mostFacts, noPartner}
 use Rattle.site.specs.Lists.{any, first}
-use Rattle.site.proofs.Lists.{any-found, any-of, is-false, true-not-false, FirstAt, Found, first-found, first-none, first-of, getD-within}
+use Rattle.site.proofs.Lists.{any-found, any-of, is-false, true-not-false, FirstAt, first-found, first-none, first-of}
 use Rattle.rules.specs.Lawful.{Lawful}
 use Rattle.follows.specs.Tables.{Follows, followsOf}
 use Rattle.follows.specs.Decides.{Decides}

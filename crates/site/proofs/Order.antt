@@ -1,6 +1,6 @@
 -- The order of facts, "by predicate, then subject, then object", as a family of three cases: it is transitive, and no fact is below itself.
-use Prim.Native.Nat.{ℕ, _<_}
-use mathlib.Core.Path.{_≡_, refl}
+use Prim.Native.Nat.{_<_}
+use mathlib.Core.Path.{_≡_}
 use mathlib.Core.Bool.{Bool, true, false, _&&_, _||_}
 use mathlib.Core.Logic.{_⊎_, inl, inr}
 use lib.Dec.{eqb, ltb}
