@@ -106,7 +106,7 @@ cases =
     ∷ asked-of R F 0 7 (gives none)
     -- "uplink is empty, so Camera(7) is alone and Switch(7) beside it is kept"
     ∷ marked-so emptied (0x02 ∷ 0x00 ∷ 0x07 ∷ 0x01 ∷ 0x07 ∷ []) (gives (0 ∷ 1 ∷ []))
-    -- refusals: the count, the functional role, the order
+    -- refusals: no bytes, a count over its limit (`80 20` begins 4,096 facts, the first of them missing), a functional role, the order
     ∷ marked-so R [] (refused 1 1 0)
     ∷ marked-so R (0x00 ∷ []) (gives [])
     ∷ marked-so R (0x80 ∷ 0x20 ∷ []) (refused 1 1 2)
@@ -115,7 +115,7 @@ cases =
     ∷ marked-so R (0x02 ∷ 0x00 ∷ 0x07 ∷ 0x00 ∷ 0x07 ∷ []) (refused 8 1 3)
     -- "Marking a fact disputed because of a fact that is alone": Camera(12) beside uplink(12,12)
     ∷ marked-so R (0x02 ∷ 0x01 ∷ 0x0C ∷ 0x40 ∷ 0x0C ∷ 0x0C ∷ []) (gives (0 ∷ 1 ∷ []))
-    -- "a role nobody can have does not empty the concepts that demand it": Camera(9), and none of it supports a partner
+    -- "a role nobody can have does not empty the concepts that demand it": Camera(9) is alone, and tells of no partner
     ∷ marked-so emptied (0x01 ∷ 0x01 ∷ 0x09 ∷ []) (gives (1 ∷ []))
     ∷ asked-of emptied (0x01 ∷ 0x01 ∷ 0x09 ∷ []) 64 9 (gives none)
     -- "Forgetting the loop R(a,a), where both ends and both directions meet": uplink(7,7), and uplink(7,8), uplink(8,7) beside it
