@@ -6,6 +6,7 @@ pub mod OfAnswers
 pub mod OfKept
 pub mod Cases
 pub mod OfTests
+pub mod OfAgreement
 pub mod OfAsking
 pub mod OfJudging
 pub mod OfRows
