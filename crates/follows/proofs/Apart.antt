@@ -102,7 +102,7 @@ module _ (s : Site) where
     by-void : (z : Node) → Included s x z → Included s y z → Void z → Kept x y
 
   -- each is excluded
-  written-excludes : (r : Rule) {w : Pair} → List·Memᴰ r (s .rules) → List·Memᴰ w (writtenOf r) → Excluded s (w .left) (w .right)
+  pub written-excludes : (r : Rule) {w : Pair} → List·Memᴰ r (s .rules) → List·Memᴰ w (writtenOf r) → Excluded s (w .left) (w .right)
   written-excludes (disjoint b c) m (List·Memᴰ·head e) = subst (λ w. Excluded s (w .left) (w .right)) (sym e) (by-rule m kind-1)
   written-excludes (disjoint b c) m (List·Memᴰ·tail n) = absurd (List·Memᴰ·not-nil n)
   written-excludes (roleDisjoint p q) m (List·Memᴰ·head e) = subst (λ w. Excluded s (w .left) (w .right)) (sym e) (by-rule m kind-3)
@@ -167,7 +167,7 @@ module _ (s : Site) where
 
   module _ (lawful : Lawful s) where
     -- mates lead on
-    mates-lead : (q : BasicRole) {x y : Node} → OneOf q x → OneOf q y → declaredRole s q ≡ true → LeadsOn x y
+    pub mates-lead : (q : BasicRole) {x y : Node} → OneOf q x → OneOf q y → declaredRole s q ≡ true → LeadsOn x y
     mates-lead q {x} {y} o p d =
         one (record {
           from = node-in s x (one-of-declared s q o d);

@@ -48,7 +48,7 @@ module _ (rules : List Rule) where
         is-right = same-node ((g .one) .right) y (and-right l r (g .passes));
       }
 
-  arrow-of : {r : Rule} {a : Pair} → List·Memᴰ r rules → List·Memᴰ a (arrowsOf r) → arrow rules (a .left) (a .right) ≡ true
+  pub arrow-of : {r : Rule} {a : Pair} → List·Memᴰ r rules → List·Memᴰ a (arrowsOf r) → arrow rules (a .left) (a .right) ≡ true
   unfolding arrow
   arrow-of {r} {a} m n =
       any-of (λ r. any (λ b. sameNode (b .left) (a .left) && sameNode (b .right) (a .right)) (arrowsOf r)) m
