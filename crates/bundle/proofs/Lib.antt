@@ -1,3 +1,5 @@
 pub mod Accepted
+pub mod Longest
 pub mod Reading
+pub mod Refusals
 pub mod Runs
