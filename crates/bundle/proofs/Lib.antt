@@ -2,4 +2,5 @@ pub mod Accepted
 pub mod Longest
 pub mod Reading
 pub mod Refusals
+pub mod RoundTrips
 pub mod Runs
