@@ -1,4 +1,5 @@
 // Reading and writing a bundle of facts.
+mod before;
 mod check;
 mod facts;
 mod one;
