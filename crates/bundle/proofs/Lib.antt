@@ -4,3 +4,4 @@ pub mod Reading
 pub mod Refusals
 pub mod RoundTrips
 pub mod Runs
+pub mod Storing

@@ -24,7 +24,7 @@ use Rattle.site.specs.Told.{endTold, endRefusal}
 use Rattle.rules.specs.declared.head.Head.{Head}
 use Rattle.bundle.specs.Bundle.{Last, factAt, ascends, factsFrom, predicateKnown, checkBundle}
 use Rattle.bundle.specs.Bundle.Last.{none, after}
-use Rattle.bundle.specs.Told.{factTold, factRefusal, stepTold, stepRefusal, bundleTold, bundleRefusal, factRest, lastOf, afterFact, stepFrom}
+use Rattle.bundle.specs.Told.{factTold, factRefusal, stepTold, stepRefusal, bundleTold, bundleRefusal, factRest, lastOf, beforeFirst, afterFact, stepFrom}
 use Rattle.bundle.specs.declared.before.Before.{Before}
 use Rattle.bundle.specs.declared.facts.Facts.{Facts}
 use Rattle.bundle.specs.declared.one.FactRead.{FactRead}
@@ -102,9 +102,12 @@ module _ (s : List ℕ) (at : ℕ) (n : Num) (is : told n ≡ numberAt s at most
         role-read b end g read is-g = rw (to-object, read, is-g)
 
 -- the fact before, as the code holds it
-pub before-first : (f : Fact) → lastOf (record { last = f; any = false }) ≡ none
+pub first-before : (f : Fact) → f ≡ record { predicate = 0; subject = 0; object = 0 } → record { last = f; any = false } ≡ beforeFirst
+first-before f is = rw is
+
+pub before-first : lastOf beforeFirst ≡ none
 unfolding lastOf
-before-first f = refl
+before-first = refl
 
 module _ (b : Before) (f : Fact) where
   pub after-none : b .any ≡ false → true ≡ ascends (lastOf b) f
@@ -135,8 +138,8 @@ abbrev pub restOf : (ℕ → Bool) → List ℕ → Walk → ℕ → Answer ℕ
 restOf known s w n = factsFrom known s (lastOf (w .before)) n (w .at)
 
 module _ (known : ℕ → Bool) (s : List ℕ) where
-  pub walk-starts : (n start : ℕ) (b : Before) → lastOf b ≡ none → factsFrom known s none n start ≡ restOf known s (record { at = start; before = b }) n
-  walk-starts n start b is = rw is
+  pub walk-starts : (n start : ℕ) (b : Before) → b ≡ beforeFirst → factsFrom known s none n start ≡ restOf known s (record { at = start; before = b }) n
+  walk-starts n start b is = rw (is, before-first)
 
   by-test : (n at : ℕ) (f : Read Fact) (t : Bool)
       → cond t (factsFrom known s (after (f .value)) n (f .next)) (refuses (refusal 8 1 at))
@@ -196,4 +199,4 @@ module _ (h : Head) (s : List ℕ) (n : Num) (is : told n ≡ countAt s 0 mostFa
       unfolding checkBundle
       bundle-accepted at is-at = rw (← is, read, ← walked, is-end, ← ended, is-at)
 
-pub ruleset reading = (fact-no-refusal, step-no-refusal, bundle-no-refusal, subject-refused, predicate-refused, predicate-unknown, predicate-known, predicate-any, concept-read, object-refused, role-read, before-first, after-none, after-last, step-refused, step-on, step-order, walk-starts, walk-refused, walk-on, walk-ends, count-refused, facts-refused, end-refused, bundle-accepted, needs)
+pub ruleset reading = (fact-no-refusal, step-no-refusal, bundle-no-refusal, subject-refused, predicate-refused, predicate-unknown, predicate-known, predicate-any, concept-read, object-refused, role-read, first-before, after-none, after-last, step-refused, step-on, step-order, walk-starts, walk-refused, walk-on, walk-ends, count-refused, facts-refused, end-refused, bundle-accepted, needs)

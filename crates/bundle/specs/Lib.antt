@@ -1,4 +1,5 @@
 pub mod Bundle
 pub mod Lawful
+pub mod Pushed
 pub mod Records
 pub mod Told

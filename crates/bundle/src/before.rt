@@ -1,9 +1,7 @@
 // The fact before, if there is one: what the order of facts is judged by, in reading and in writing.
 ghost use mathlib.Core.Path.{_≡_};
-ghost use mathlib.Core.Bool.{true};
 ghost use Rattle.bundle.specs.Bundle.{ascends};
-ghost use Rattle.bundle.specs.Bundle.Last.{none};
-ghost use Rattle.bundle.specs.Told.{lastOf};
+ghost use Rattle.bundle.specs.Told.{lastOf, beforeFirst, afterFact};
 use site::Fact;
 
 pub struct Before {
@@ -14,7 +12,7 @@ pub struct Before {
 impl Before {
     // Before the first fact.
     pub fn none() -> Self
-        ensures { λ r. ⌜ lastOf r ≡ none ⌝ }
+        ensures { λ r. ⌜ r ≡ beforeFirst ⌝ }
     {
         Self {
             last: Fact::new(0, 0, 0),
@@ -24,7 +22,7 @@ impl Before {
 
     // After a fact.
     pub fn after(fact: Fact) -> Self
-        ensures { λ r. ⌜ r ≡ record { last = fact; any = true } ⌝ }
+        ensures { λ r. ⌜ r ≡ afterFact fact ⌝ }
     {
         Self {
             last: fact,
