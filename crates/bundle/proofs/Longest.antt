@@ -81,7 +81,7 @@ module _ (s : List ℕ) (bytes : Bytes s) where
         omega (arith, run-near (w .run), w .count, start-near n e)
 
 -- answers that are the same as far as they go
-then-same : {A B : Type 0} (a : Answer A) (k k′ : A → Answer B) → ((x : A) → a ≡ gives x → k x ≡ k′ x) → (a then k) ≡ (a then k′)
+pub then-same : {A B : Type 0} (a : Answer A) (k k′ : A → Answer B) → ((x : A) → a ≡ gives x → k x ≡ k′ x) → (a then k) ≡ (a then k′)
 then-same (gives x) k k′ same = same x refl
 then-same (refuses r) k k′ same = refl
 

@@ -80,7 +80,7 @@ module _ (out : List ℕ) (at v : ℕ) (fits : Stores out at v) (r : Wrote) (out
   put-refused x is = absurd (never (sym (ap toldWrote is) ∙ writes .answer ∙ ap (over (λ bytes. at + length bytes)) planned))
 
 -- stores one after the other
-sets-append : (xs ys out : List ℕ) (at : ℕ) → sets out at (xs ++ ys) ≡ sets (sets out at xs) (at + length xs) ys
+pub sets-append : (xs ys out : List ℕ) (at : ℕ) → sets out at (xs ++ ys) ≡ sets (sets out at xs) (at + length xs) ys
 sets-append [] ys out at = let e : at + 0 ≡ at = omega arith in rw e
 sets-append (x ∷ xs) ys out at =
     let e : suc at + length xs ≡ at + suc (length xs) = omega arith in

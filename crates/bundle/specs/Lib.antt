@@ -1,3 +1,4 @@
+pub mod Again
 pub mod Bundle
 pub mod Lawful
 pub mod Pushed

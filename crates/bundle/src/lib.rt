@@ -1,4 +1,5 @@
 // Reading and writing a bundle of facts.
+mod again;
 mod before;
 mod check;
 mod facts;
@@ -7,6 +8,9 @@ mod store;
 mod walk;
 mod writing;
 
+pub use again::BundleWrote;
+pub use again::push_facts;
+pub use again::write_bundle_again;
 pub use before::Before;
 pub use check::BundleRead;
 pub use check::check_bundle;
