@@ -9,6 +9,7 @@ pub mod OfTests
 pub mod OfAgreement
 pub mod OfAsking
 pub mod OfJudging
+pub mod OfKeeping
 pub mod OfRows
 pub mod OfSearch
 pub mod OfTypeCodes

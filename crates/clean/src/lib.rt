@@ -2,6 +2,7 @@
 mod answers;
 mod clash;
 mod judge;
+mod keep;
 mod pick;
 mod row;
 mod search;
