@@ -1,4 +1,5 @@
 pub mod Lists
+pub mod Order
 pub mod OfItems
 pub mod OfKinds
 pub mod Same

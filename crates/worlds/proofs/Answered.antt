@@ -8,52 +8,56 @@ use mathlib.Core.List.{List}
 use lib.ListN.{length}
 use lib.Dec.{eqb}
 use borrow.Author.Tests.{eqb-true, eq-eqb}
-use native.Mathlib.Omega.{arith}
 use Rattle.site.specs.declared.fact.Fact.{Fact}
 use Rattle.site.specs.Kinds.{BasicRole, BasicConcept, Node, Site}
 use Rattle.site.specs.Kinds.Node.{concept, role}
+use Rattle.site.proofs.Lists.{any-found, any-of, and-left, and-right, and-both}
 use Rattle.rules.specs.Lawful.{Lawful}
 use Rattle.follows.specs.Tables.{Follows}
 use Rattle.follows.specs.Decides.{Decides}
 use Rattle.clean.specs.Types.{typ, typesOf}
-use Rattle.clean.specs.Marks.{samePlace, supports, marked, kept, support}
+use Rattle.clean.specs.Marks.{samePlace, supports, kept, support}
+use Rattle.clean.proofs.OfTypes.{TypeOf, listed-of, of-listed}
+use Rattle.clean.proofs.OfAnswers.{supported}
+use Rattle.clean.proofs.OfKept.{kept-is}
 use Rattle.worlds.specs.Worlds.{Is, Joins, WorldOf, Always}
-use Rattle.worlds.proofs.OfLists.{any-some, some-any, some-keep, first-some, some-first, and-left, and-right, and-both}
-use Rattle.worlds.proofs.OfTypes.{TypeOf, listed-of, of-listed}
 use Rattle.worlds.proofs.Sound.{At, included-holds, type-shown, shown-at}
 use Rattle.worlds.proofs.Told.{Told}
 use Rattle.worlds.proofs.Canonical.{canonical, canonical-world, is-told, joins-told}
 use Rattle.worlds.proofs.Consistency.{AllFit}
-use Rattle.worlds.proofs.Dropped.{kept-fact, kept-within, kept-peaceful}
+use Rattle.worlds.proofs.Dropped.{kept-within, kept-peaceful}
 
 module _ (ρ : ℕ → ℕ) (s : Site) (t : Follows) (law : Lawful s) (d : Decides s t) (facts : List Fact) (fit : AllFit s facts) where
   -- yes exactly if the kept facts tell it
   told-support : {x : Node} {a b : ℕ} → Told ρ s (kept ρ t facts) x a b → support ρ t facts (typ x a b) < length facts
-  unfolding support supports
+  unfolding supports
   told-support {x} {a} {b} r =
-      let k = kept-fact ρ s t law d facts fit (r .fact) (r .member) in
-      some-first (λ f. marked ρ t facts 0 f && supports ρ t (typ x a b) f) (length facts) 0 (omega arith) (k .0)
-      (and-both _ _ (k .1)
-      (some-any (λ y. samePlace y (typ x a b) && t .isIncluded (y .node) x) (of-listed (r .of))
-      (and-both _ _ (and-both _ _ (eq-eqb a a refl) (eq-eqb b b refl)) (d .included (r .node) x .1 (r .below)))))
+      let k = kept-is ρ t facts (r .fact) .0 (r .member) in
+      supported ρ t facts (typ x a b) .1
+      (record {
+        fact = r .fact;
+        within = k .within;
+        is-kept = k .mark-0;
+        supporting =
+            any-of (λ y. samePlace y (typ x a b) && t .isIncluded (y .node) x) (of-listed (r .of))
+            (and-both _ _ (and-both _ _ (eq-eqb a a refl) (eq-eqb b b refl)) (d .included (r .node) x .1 (r .below)));
+      })
 
   support-told : (x : Node) (a b : ℕ) → support ρ t facts (typ x a b) < length facts → Told ρ s (kept ρ t facts) x a b
-  unfolding support supports kept
+  unfolding supports
   support-told x a b h =
-      let k = first-some (λ f. marked ρ t facts 0 f && supports ρ t (typ x a b) f) (length facts) 0 facts (omega arith) h in
-      let f = k .element in
-      let l =
-      any-some (λ y. samePlace y (typ x a b) && t .isIncluded (y .node) x) (typesOf ρ f)
-      (and-right (marked ρ t facts 0 f) _ (k .passes)) in
-      let y = l .element in
+      let k = supported ρ t facts (typ x a b) .0 h in
+      let f = k .fact in
+      let l = any-found (λ y. samePlace y (typ x a b) && t .isIncluded (y .node) x) (typesOf ρ f) (k .supporting) in
+      let y = l .one in
       let place = and-left (samePlace y (typ x a b)) _ (l .passes) in
       record {
         fact = f;
-        member = some-keep (marked ρ t facts 0) (k .member) (and-left (marked ρ t facts 0 f) _ (k .passes));
+        member = kept-is ρ t facts f .1 (record { within = k .within; mark-0 = k .is-kept });
         node = y .node;
         of =
             subst (λ (n : ℕ). TypeOf ρ f (y .node) n b) (eqb-true _ _ (and-left (eqb (y .from) a) _ place))
-            (subst (λ (n : ℕ). TypeOf ρ f (y .node) (y .from) n) (eqb-true _ _ (and-right (eqb (y .from) a) _ place)) (listed-of (l .member)));
+            (subst (λ (n : ℕ). TypeOf ρ f (y .node) (y .from) n) (eqb-true _ _ (and-right (eqb (y .from) a) _ place)) (listed-of (l .within)));
         below = d .included (y .node) x .0 (and-right (samePlace y (typ x a b)) _ (l .passes));
       }
 

@@ -10,14 +10,14 @@ use Rattle.site.specs.declared.fact.Fact.{Fact}
 use Rattle.site.specs.Kinds.{BasicRole, BasicConcept, Site, turned, ofConcept}
 use Rattle.site.specs.Kinds.Node.{concept, role}
 use Rattle.site.specs.Lists.{any}
+use Rattle.site.proofs.Lists.{any-found, any-of, and-left, and-right, and-both}
 use Rattle.rules.specs.Lawful.{Lawful}
 use Rattle.follows.specs.Tables.{Follows}
 use Rattle.follows.specs.Decides.{Decides}
 use Rattle.clean.specs.Types.{Typ, typesOf}
 use Rattle.worlds.specs.Worlds.{World, Names, Joins, Is, Says, Holds, WorldOf}
-use Rattle.worlds.proofs.OfLists.{any-some, some-any, and-left, and-right, and-both}
-use Rattle.worlds.proofs.OfTypes.{TypeOf, listed-of, of-listed}
-use Rattle.worlds.proofs.OfTypes.TypeOf.{is-a, joins}
+use Rattle.clean.proofs.OfTypes.{TypeOf, listed-of, of-listed}
+use Rattle.clean.proofs.OfTypes.TypeOf.{is-a, joins}
 use Rattle.worlds.proofs.Chase.{Element, Link, Blocks, Partnered, chased, joins-link, is-has, obeys-all}
 use Rattle.worlds.proofs.Chase.Element.{device, child}
 use Rattle.worlds.proofs.Chase.Link.{told, up}
@@ -39,17 +39,17 @@ module _ (ρ : ℕ → ℕ) (s : Site) (t : Follows) (facts : List Fact) where
   module _ (law : Lawful s) (d : Decides s t) where
     partnered : Partnered s (Told ρ s facts) there
     partnered (device a) p e h =
-        let k = any-some (λ f. any (partnerBy a p) (typesOf ρ f)) facts e in
-        let l = any-some (partnerBy a p) (typesOf ρ (k .element)) (k .passes) in
-        let x = l .element in
+        let k = any-found (λ f. any (partnerBy a p) (typesOf ρ f)) facts e in
+        let l = any-found (partnerBy a p) (typesOf ρ (k .one)) (k .passes) in
+        let x = l .one in
         let at-a = eqb-true (x .from) a (and-right (t .isIncluded (x .node) (role p)) _ (l .passes)) in (
           device (x .to),
           told
               (record {
-                fact = k .element;
-                member = k .member;
+                fact = k .one;
+                member = k .within;
                 node = x .node;
-                of = subst (λ (n : ℕ). TypeOf ρ (k .element) (x .node) n (x .to)) at-a (listed-of (l .member));
+                of = subst (λ (n : ℕ). TypeOf ρ (k .one) (x .node) n (x .to)) at-a (listed-of (l .within));
                 below = d .included (x .node) (role p) .0 (and-left (t .isIncluded (x .node) (role p)) _ (l .passes));
               }),
         )
@@ -57,8 +57,8 @@ module _ (ρ : ℕ → ℕ) (s : Site) (t : Follows) (facts : List Fact) where
 
     by-told : {q : BasicRole} {a b : ℕ} → Told ρ s facts (role q) a b → there (device a) q ≡ true
     by-told {q} {a} {b} r =
-        some-any (λ f. any (partnerBy a q) (typesOf ρ f)) (r .member)
-        (some-any (partnerBy a q) (of-listed (r .of))
+        any-of (λ f. any (partnerBy a q) (typesOf ρ f)) (r .member)
+        (any-of (partnerBy a q) (of-listed (r .of))
         (and-both (t .isIncluded (r .node) (role q)) (eqb a a) (d .included (r .node) (role q) .1 (r .below)) (eq-eqb a a refl)))
 
     blocks : Blocks s (Told ρ s facts) there

@@ -10,15 +10,17 @@ use Rattle.site.specs.Kinds.BasicRole.{forward, inverse}
 use Rattle.site.specs.Kinds.BasicConcept.{named, some}
 use Rattle.site.specs.Kinds.Node.{concept, role}
 use Rattle.site.specs.Kinds.Rule.{included, disjoint, roleIncluded, roleDisjoint, functional}
+use Rattle.site.proofs.Same.{turned-twice}
+use Rattle.site.proofs.Lists.{true-not-false, either}
 use Rattle.rules.specs.Lawful.{Lawful}
 use Rattle.follows.specs.Steps.{Included, Excluded, OneOf}
 use Rattle.follows.specs.Steps.SaysIncluded.{kind-0, kind-2}
 use Rattle.follows.specs.Steps.SaysExcluded.{kind-1, kind-3}
 use Rattle.follows.specs.Steps.Included.{step-1, step-2, step-3, step-4}
 use Rattle.follows.specs.Steps.Excluded.{step-5, step-6, step-8}
+use Rattle.follows.proofs.Laws.{turnedNode, someNode, included-declared, functional-alone}
 use Rattle.worlds.specs.Worlds.{World, Joins, Is, Obeys}
-use Rattle.worlds.proofs.OfLists.{true-not-false, either}
-use Rattle.worlds.proofs.OfNodes.{turn, having, turned-turned, declared-right, only-itself, role-is}
+use Rattle.worlds.proofs.OfNodes.{role-is}
 
 -- a named thing, or the partner by p that an element demands
 pub data Element : Type 0 where
@@ -28,8 +30,8 @@ pub data Element : Type 0 where
 -- what is told of named things: closed under inclusion, turning round, and reading a role of its first thing
 pub record Closed (s : Site) (Tells : Node → ℕ → ℕ → Type 0) : Type 0 where
   pub widens : {x y : Node} {a b : ℕ} → Tells x a b → Included s x y → Tells y a b
-  pub turns : {x : Node} {a b : ℕ} → Tells x a b → Tells (turn x) b a
-  pub having-of : {x : Node} {a b : ℕ} → Tells x a b → Tells (having x) a a
+  pub turns : {x : Node} {a b : ℕ} → Tells x a b → Tells (turnedNode x) b a
+  pub having-of : {x : Node} {a b : ℕ} → Tells x a b → Tells (someNode x) a a
   pub known : {x : Node} {a b : ℕ} → Tells x a b → declared s x ≡ true
 
 -- what is told does not contradict itself
@@ -83,13 +85,13 @@ module _ (s : Site) (Tells : Node → ℕ → ℕ → Type 0) (block : Element �
 
     pub has-known : (u : Element) (c : BasicConcept) → Has c u → declared s (concept c) ≡ true
     has-known (device a) c h = closed .known h
-    has-known (child u p) c h = declared-right s law (h .2)
+    has-known (child u p) c h = included-declared s law (h .2) .right
 
     pub link-turns : {p : BasicRole} {u v : Element} → Link p u v → Link (turned p) v u
     link-turns (told t) = told (closed .turns t)
     link-turns (down h n i) = up h n (step-3 i)
     link-turns {p} (up {q = q} h n i) =
-        down h n (subst (λ (r : BasicRole). Included s (role r) (role (turned p))) (turned-turned q) (step-3 i))
+        down h n (subst (λ (r : BasicRole). Included s (role r) (role (turned p))) (turned-twice q) (step-3 i))
 
     pub link-widens : {p q : BasicRole} {u v : Element} → Link p u v → Included s (role p) (role q) → Link q u v
     link-widens (told t) i = told (closed .widens t i)
@@ -145,7 +147,7 @@ module _ (s : Site) (Tells : Node → ℕ → ℕ → Type 0) (block : Element �
 
       module _ (blocks : Blocks) {q : BasicRole} (m : List·Memᴰ (functional q) (s .rules)) where
         alike : {p : BasicRole} → Included s (role p) (role q) → p ≡ q
-        alike i = role-is (only-itself s law q m i refl)
+        alike i = role-is (functional-alone s law q m i refl)
 
         unblocked : {u : Element} {p : BasicRole} → Included s (role p) (role q) → block u p ≡ false → block u q ≡ true → ⊥
         unblocked {u} i n b = true-not-false b (subst (λ (r : BasicRole). block u r ≡ false) (alike i) n)

@@ -8,13 +8,14 @@ use mathlib.Core.List.{List, List·Memᴰ}
 use Rattle.site.specs.declared.fact.Fact.{Fact}
 use Rattle.site.specs.Kinds.{Site}
 use Rattle.site.specs.Lists.{any}
+use Rattle.site.proofs.Lists.{any-found, any-of, either, true-not-false}
 use Rattle.rules.specs.Lawful.{Lawful}
 use Rattle.follows.specs.Tables.{Follows}
 use Rattle.follows.specs.Decides.{Decides}
 use Rattle.clean.specs.Marks.{contradict}
 use Rattle.worlds.specs.Worlds.{Consistent}
-use Rattle.worlds.proofs.OfLists.{Within, any-some, some-any, either, true-not-false}
-use Rattle.worlds.proofs.OfTypes.{contradict-against, against-contradict}
+use Rattle.worlds.proofs.OfLists.{Within}
+use Rattle.clean.proofs.OfTypes.{contradict-against, against-contradict}
 use Rattle.worlds.proofs.Sound.{Near, against-never}
 use Rattle.worlds.proofs.Told.{Peaceful, Spoken}
 use Rattle.worlds.proofs.Canonical.{canonical, canonical-world}
@@ -49,14 +50,14 @@ module _ (ρ : ℕ → ℕ) (s : Site) (t : Follows) (law : Lawful s) (d : Decid
       go (inl e) =
           no
           (λ c.
-          let k = any-some (λ f. any (contradict ρ t f) set) set e in
-          let l = any-some (contradict ρ t (k .element)) set (k .passes) in
-          consistent-peaceful set within c (k .element) (l .element) (k .member) (l .member)
-          (contradict-against ρ s t d (k .element) (l .element) (l .passes)))
+          let k = any-found (λ f. any (contradict ρ t f) set) set e in
+          let l = any-found (contradict ρ t (k .one)) set (k .passes) in
+          consistent-peaceful set within c (k .one) (l .one) (k .within) (l .within)
+          (contradict-against ρ s t d (k .one) (l .one) (l .passes)))
       go (inr e) =
           yes
           (peaceful-consistent set within
           (λ f g m k a.
           true-not-false
-          (some-any (λ x. any (contradict ρ t x) set) m (some-any (contradict ρ t f) k (against-contradict ρ s t d a)))
+          (any-of (λ x. any (contradict ρ t x) set) m (any-of (contradict ρ t f) k (against-contradict ρ s t d a)))
           e))

@@ -1,59 +1,48 @@
 -- A fact is dropped exactly if it spoils a consistent set: none if it is alone, a fact that it clashes with if it is disputed. So dropped
 -- is left out by some maximal consistent set; and the kept facts, of which no two contradict each other, are consistent.
 use Prim.Native.Nat.{ℕ}
-use mathlib.Core.Path.{_≡_, refl, sym, ap, _∙_}
-use mathlib.Core.Bool.{Bool, true, false, cond, not, _&&_}
-use mathlib.Core.Logic.{_↔_, _⊎_, inl, inr}
+use mathlib.Core.Path.{_≡_, refl}
+use mathlib.Core.Bool.{true}
+use mathlib.Core.Logic.{_↔_}
 use mathlib.Core.List.{List, [], _∷_, List·Memᴰ, List·Memᴰ·head, List·Memᴰ·tail}
-use borrow.Author.Tests.{eqb-true, not-true}
-use native.Mathlib.Omega.{arith}
 use Rattle.site.specs.declared.fact.Fact.{Fact}
 use Rattle.site.specs.Kinds.{Site}
-use Rattle.site.specs.Lists.{any}
+use Rattle.site.proofs.Lists.{Passing, any-found, is-false, true-not-false}
 use Rattle.rules.specs.Lawful.{Lawful}
 use Rattle.follows.specs.Tables.{Follows}
 use Rattle.follows.specs.Decides.{Decides}
-use Rattle.clean.specs.Marks.{alone, clash, mark, marked, kept}
+use Rattle.clean.specs.Marks.{alone, clash, mark, kept}
 use Rattle.worlds.specs.Worlds.{Consistent, LeftOut}
-use Rattle.worlds.proofs.OfLists.{Within, within-cons, within-nil, Passes, any-some, some-any, keep-some, and-left, and-right, and-both, either, is-false, true-not-false}
-use Rattle.worlds.proofs.OfTypes.{Against, contradict-against, against-contradict, alone-against, against-alone}
+use Rattle.worlds.proofs.OfLists.{Within, within-cons, within-nil}
+use Rattle.clean.proofs.OfClash.{clash-is}
+use Rattle.clean.proofs.OfMarks.{MarkOf, mark-of, mark-0}
+use Rattle.clean.proofs.OfMarks.MarkOf.{is-kept, is-alone, is-disputed}
+use Rattle.clean.proofs.OfKept.{kept-is}
+use Rattle.clean.proofs.OfTypes.{Against, contradict-against, against-contradict, alone-against, against-alone}
 use Rattle.worlds.proofs.Told.{Peaceful, peaceful-nil, peaceful-cons}
 use Rattle.worlds.proofs.Repairs.{Spoils, spoils-left-out, left-out-spoils}
 use Rattle.worlds.proofs.Consistency.{AllFit, consistent-peaceful, peaceful-consistent, fewer-consistent, decide-consistent}
 
 module _ (ρ : ℕ → ℕ) (s : Site) (t : Follows) (law : Lawful s) (d : Decides s t) (facts : List Fact) (fit : AllFit s facts) where
-  -- what the mark says
-  alone-mark : (f : Fact) → mark ρ t facts f ≡ 0 → alone ρ t f ≡ true → ⊥
-  unfolding mark
-  alone-mark f h e = let z : _≡_ {A = ℕ} 0 1 = sym h ∙ ap (λ (b : Bool). cond b 1 (cond (any (clash ρ t f) facts) 2 0)) e in omega arith
-
-  clash-mark : (f : Fact) → mark ρ t facts f ≡ 0 → alone ρ t f ≡ false → any (clash ρ t f) facts ≡ true → ⊥
-  unfolding mark
-  clash-mark f h e c =
-      let z : _≡_ {A = ℕ} 0 2 = sym h ∙ ap (λ (b : Bool). cond b 1 (cond (any (clash ρ t f) facts) 2 0)) e ∙ ap (λ (b : Bool). cond b 2 0) c in
-      omega arith
-
-  unmarked : (f : Fact) → alone ρ t f ≡ false → any (clash ρ t f) facts ≡ false → mark ρ t facts f ≡ 0
-  unfolding mark
-  unmarked f e c = ap (λ (b : Bool). cond b 1 (cond (any (clash ρ t f) facts) 2 0)) e ∙ ap (λ (b : Bool). cond b 2 0) c
-
   -- a fact of mark 0 contradicts neither itself nor a fact that is not alone
   kept-alone : (f : Fact) → mark ρ t facts f ≡ 0 → Against ρ s f f → ⊥
-  kept-alone f h a = alone-mark f h (against-alone ρ s t d a)
+  kept-alone f h a = true-not-false (against-alone ρ s t d a) (mark-0 ρ t facts f .0 h .not-alone)
 
   kept-clash : (f g : Fact) → List·Memᴰ g facts → mark ρ t facts f ≡ 0 → (Against ρ s g g → ⊥) → Against ρ s f g → ⊥
-  unfolding clash
   kept-clash f g m h n a =
-      let not-f : alone ρ t f ≡ false = is-false (alone-mark f h) in
-      let not-g : alone ρ t g ≡ false = is-false (λ e. n (alone-against ρ s t d g e)) in
-      clash-mark f h not-f
-      (some-any (clash ρ t f) m
-      (and-both _ _ (and-both _ _ (ap not not-f) (ap not not-g)) (against-contradict ρ s t d a)))
+      let u = mark-0 ρ t facts f .0 h in
+      true-not-false
+      (clash-is ρ t f g .1
+      (record {
+        first-not-alone = u .not-alone;
+        second-not-alone = is-false (λ e. n (alone-against ρ s t d g e));
+        contradicts = against-contradict ρ s t d a;
+      }))
+      (u .quiet g m)
 
   -- a dropped fact spoils a consistent set, and only such a fact does
   dropped-spoils : (f : Fact) → List·Memᴰ f facts → (mark ρ t facts f ≡ 0 → ⊥) → Spoils (Consistent ρ s) facts f
-  unfolding clash
-  dropped-spoils f m h = go (either (alone ρ t f)) (either (any (clash ρ t f) facts))
+  dropped-spoils f m h = go refl (mark-of ρ t facts f)
     where
       alone-spoils : alone ρ t f ≡ true → Spoils (Consistent ρ s) facts f
       alone-spoils e =
@@ -66,28 +55,26 @@ module _ (ρ : ℕ → ℕ) (s : Site) (t : Follows) (law : Lawful s) (d : Decid
                 (alone-against ρ s t d f e);
           }
 
-      clash-spoils : Passes (clash ρ t f) facts → Spoils (Consistent ρ s) facts f
+      clash-spoils : Passing (clash ρ t f) facts → Spoils (Consistent ρ s) facts f
       clash-spoils k =
-          let g = k .element in
-          let only-g : Within (g ∷ []) facts = within-cons (k .member) within-nil in
-          let quiet = and-left (not (alone ρ t f) && not (alone ρ t g)) _ (k .passes) in
-          let not-g = not-true _ (and-right (not (alone ρ t f)) _ quiet) in
+          let g = k .one in
+          let only-g : Within (g ∷ []) facts = within-cons (k .within) within-nil in
+          let c = clash-is ρ t f g .0 (k .passes) in
           record {
             set = g ∷ [];
             within = only-g;
             good =
                 peaceful-consistent ρ s t law d facts fit (g ∷ []) only-g
-                (peaceful-cons (λ a. true-not-false (against-alone ρ s t d a) not-g) (λ x z. elim z [ ]) peaceful-nil);
-            spoilt = λ c.
-                consistent-peaceful ρ s t law d facts fit (f ∷ g ∷ []) (within-cons m only-g) c f g (List·Memᴰ·head refl) (List·Memᴰ·tail (List·Memᴰ·head refl))
-                (contradict-against ρ s t d f g (and-right (not (alone ρ t f) && not (alone ρ t g)) _ (k .passes)));
+                (peaceful-cons (λ a. true-not-false (against-alone ρ s t d a) (c .second-not-alone)) (λ x z. elim z [ ]) peaceful-nil);
+            spoilt = λ w.
+                consistent-peaceful ρ s t law d facts fit (f ∷ g ∷ []) (within-cons m only-g) w f g (List·Memᴰ·head refl) (List·Memᴰ·tail (List·Memᴰ·head refl))
+                (contradict-against ρ s t d f g (c .contradicts));
           }
 
-      go : (alone ρ t f ≡ true) ⊎ (alone ρ t f ≡ false) → (any (clash ρ t f) facts ≡ true) ⊎ (any (clash ρ t f) facts ≡ false)
-          → Spoils (Consistent ρ s) facts f
-      go (inl e) c = alone-spoils e
-      go (inr e) (inl c) = clash-spoils (any-some (clash ρ t f) facts c)
-      go (inr e) (inr c) = absurd (h (unmarked f e c))
+      go : {n : ℕ} → mark ρ t facts f ≡ n → MarkOf ρ t facts f n → Spoils (Consistent ρ s) facts f
+      go e (is-kept u v) = absurd (h e)
+      go e (is-alone u) = alone-spoils u
+      go e (is-disputed u v) = clash-spoils (any-found (clash ρ t f) facts v)
 
   spoils-dropped : (f : Fact) → List·Memᴰ f facts → Spoils (Consistent ρ s) facts f → mark ρ t facts f ≡ 0 → ⊥
   spoils-dropped f m p h =
@@ -113,19 +100,11 @@ module _ (ρ : ℕ → ℕ) (s : Site) (t : Follows) (law : Lawful s) (d : Decid
           (l .2))
 
   -- (2) the kept facts are consistent
-  pub kept-fact : (f : Fact) → List·Memᴰ f (kept ρ t facts) → List·Memᴰ f facts × (marked ρ t facts 0 f ≡ true)
-  unfolding kept
-  kept-fact f m = keep-some (marked ρ t facts 0) facts m
-
-  kept-mark : (f : Fact) → List·Memᴰ f (kept ρ t facts) → mark ρ t facts f ≡ 0
-  unfolding marked
-  kept-mark f m = eqb-true _ _ (kept-fact f m .1)
-
   pub kept-within : Within (kept ρ t facts) facts
-  kept-within f m = kept-fact f m .0
+  kept-within f m = kept-is ρ t facts f .0 m .within
 
   pub kept-peaceful : Peaceful ρ s (kept ρ t facts)
-  kept-peaceful f g m k = kept-clash f g (kept-within g k) (kept-mark f m) (kept-alone g (kept-mark g k))
+  kept-peaceful f g m k = kept-clash f g (kept-within g k) (kept-is ρ t facts f .0 m .mark-0) (kept-alone g (kept-is ρ t facts g .0 k .mark-0))
 
   pub kept-consistent : Consistent ρ s (kept ρ t facts)
   kept-consistent = peaceful-consistent ρ s t law d facts fit (kept ρ t facts) kept-within kept-peaceful

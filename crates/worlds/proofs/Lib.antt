@@ -1,6 +1,5 @@
 pub mod OfLists
 pub mod OfNodes
-pub mod OfTypes
 pub mod Sound
 pub mod Chase
 pub mod Repairs
@@ -10,4 +9,5 @@ pub mod Consistency
 pub mod Dropped
 pub mod Answered
 pub mod WorldsDecide
+pub mod Demand
 pub mod Endless

@@ -12,15 +12,16 @@ use Rattle.site.specs.Kinds.{BasicRole, Node, Site, declared}
 use Rattle.site.specs.Kinds.Node.{role}
 use Rattle.site.specs.Kinds.Rule.{functional}
 use Rattle.site.specs.Codes.{predicateDeclared}
+use Rattle.site.proofs.Lists.{either, true-not-false}
 use Rattle.rules.specs.Lawful.{Lawful}
 use Rattle.follows.specs.Steps.{Included, Excluded}
 use Rattle.follows.specs.Steps.Included.{step-1, step-2}
 use Rattle.follows.specs.Steps.Excluded.{step-5, step-6}
-use Rattle.worlds.proofs.OfLists.{either, true-not-false}
-use Rattle.worlds.proofs.OfNodes.{declared-right, included-turn, included-having, only-itself, turn, having}
-use Rattle.worlds.proofs.OfTypes.{TypeOf, of-turn, of-having, Against, against-turned}
-use Rattle.worlds.proofs.OfTypes.TypeOf.{is-a, has, had, joins, joined}
-use Rattle.worlds.proofs.OfTypes.Against.{jars, splits}
+use Rattle.worlds.proofs.OfNodes.{included-turn, included-having}
+use Rattle.follows.proofs.Laws.{turnedNode, someNode, included-declared, functional-alone}
+use Rattle.clean.proofs.OfTypes.{TypeOf, Against, against-turned}
+use Rattle.clean.proofs.OfTypes.TypeOf.{is-a, has, had, joins, joined}
+use Rattle.clean.proofs.OfTypes.Against.{jars, splits}
 use Rattle.worlds.proofs.Chase.{Closed, Harmless}
 
 -- the facts tell that a node holds at an ordered pair
@@ -71,6 +72,22 @@ type-declared s h (had e) = other _ _ _ h e
 type-declared s h (joins e) = other _ _ _ h e
 type-declared s h (joined e) = other _ _ _ h e
 
+-- the types of a fact, turned round or of the first thing alone, are types of it
+module _ {ρ : ℕ → ℕ} {f : Fact} where
+  of-turn : {x : Node} {a b : ℕ} → TypeOf ρ f x a b → TypeOf ρ f (turnedNode x) b a
+  of-turn (is-a h) = is-a h
+  of-turn (has h) = has h
+  of-turn (had h) = had h
+  of-turn (joins h) = joined h
+  of-turn (joined h) = joins h
+
+  of-having : {x : Node} {a b : ℕ} → TypeOf ρ f x a b → TypeOf ρ f (someNode x) a a
+  of-having (is-a h) = is-a h
+  of-having (has h) = has h
+  of-having (had h) = had h
+  of-having (joins h) = has h
+  of-having (joined h) = had h
+
 module _ (ρ : ℕ → ℕ) (s : Site) (facts : List Fact) where
   pub type-told : {f : Fact} {x : Node} {a b : ℕ} → Spoken s f → List·Memᴰ f facts → TypeOf ρ f x a b → Told ρ s facts x a b
   type-told {f} {x} h m i = record { fact = f; member = m; node = x; of = i; below = step-1 (type-declared s h i) }
@@ -79,16 +96,16 @@ module _ (ρ : ℕ → ℕ) (s : Site) (facts : List Fact) where
     widened : {x y : Node} {a b : ℕ} → Told ρ s facts x a b → Included s x y → Told ρ s facts y a b
     widened r i = record { fact = r .fact; member = r .member; node = r .node; of = r .of; below = step-2 (r .below) i }
 
-    turned-round : {x : Node} {a b : ℕ} → Told ρ s facts x a b → Told ρ s facts (turn x) b a
+    turned-round : {x : Node} {a b : ℕ} → Told ρ s facts x a b → Told ρ s facts (turnedNode x) b a
     turned-round r =
-        record { fact = r .fact; member = r .member; node = turn (r .node); of = of-turn (r .of); below = included-turn s (r .below) }
+        record { fact = r .fact; member = r .member; node = turnedNode (r .node); of = of-turn (r .of); below = included-turn s (r .below) }
 
-    of-first : {x : Node} {a b : ℕ} → Told ρ s facts x a b → Told ρ s facts (having x) a a
+    of-first : {x : Node} {a b : ℕ} → Told ρ s facts x a b → Told ρ s facts (someNode x) a a
     of-first r =
-        record { fact = r .fact; member = r .member; node = having (r .node); of = of-having (r .of); below = included-having s (r .below) }
+        record { fact = r .fact; member = r .member; node = someNode (r .node); of = of-having (r .of); below = included-having s (r .below) }
 
     pub told-closed : Closed s (Told ρ s facts)
-    told-closed = record { widens = widened; turns = turned-round; having-of = of-first; known = λ r. declared-right s law (r .below) }
+    told-closed = record { widens = widened; turns = turned-round; having-of = of-first; known = λ r. included-declared s law (r .below) .right }
 
     module _ (peace : Peaceful ρ s facts) where
       apart : {x y : Node} {a b : ℕ} → Told ρ s facts x a b → Told ρ s facts y a b → Excluded s x y → ⊥
@@ -101,7 +118,7 @@ module _ (ρ : ℕ → ℕ) (s : Site) (facts : List Fact) where
       single {q} {a} {b} {c} m r k = go (either (eqb b c))
         where
           itself : {e : ℕ} (z : Told ρ s facts (role q) a e) → TypeOf ρ (z .fact) (role q) a e
-          itself {e} z = subst (λ (n : Node). TypeOf ρ (z .fact) n a e) (only-itself s law q m (z .below) refl) (z .of)
+          itself {e} z = subst (λ (n : Node). TypeOf ρ (z .fact) n a e) (functional-alone s law q m (z .below) refl) (z .of)
 
           go : (eqb b c ≡ true) ⊎ (eqb b c ≡ false) → b ≡ c
           go (inl e) = eqb-true b c e

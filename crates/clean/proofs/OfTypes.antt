@@ -14,14 +14,14 @@ use Rattle.site.specs.Kinds.BasicConcept.{named, some}
 use Rattle.site.specs.Kinds.Node.{concept, role}
 use Rattle.site.specs.Kinds.Rule.{functional}
 use Rattle.site.specs.Lists.{any}
+use Rattle.site.proofs.Lists.{any-found, any-of, and-left, and-right, and-both, or-cases, or-left, or-right, true-not-false}
+use Rattle.site.proofs.Same.{same-node, same-role-refl}
 use Rattle.follows.specs.Steps.{Excluded}
 use Rattle.follows.specs.Steps.Excluded.{step-5}
 use Rattle.follows.specs.Tables.{Follows}
 use Rattle.follows.specs.Decides.{Decides}
 use Rattle.clean.specs.Types.{Typ, typ, conceptTypes, roleTypes, typesOf}
 use Rattle.clean.specs.Marks.{samePlace, jar, functionalNode, split, meet, alone, contradict}
-use Rattle.worlds.proofs.OfLists.{any-some, some-any, and-left, and-right, and-both, or-either, or-left, or-right, true-not-false}
-use Rattle.worlds.proofs.OfNodes.{turn, having, sameNode-is, sameRole-self}
 
 -- a node at an ordered pair is a type of a fact
 pub data TypeOf (ρ : ℕ → ℕ) (f : Fact) : Node → ℕ → ℕ → Type 0 where
@@ -44,20 +44,6 @@ EndOf ρ f (concept c) b = Unit {0}
 EndOf ρ f (role q) b = b ≡ end ρ f q
 
 module _ {ρ : ℕ → ℕ} {f : Fact} where
-  pub of-turn : {x : Node} {a b : ℕ} → TypeOf ρ f x a b → TypeOf ρ f (turn x) b a
-  of-turn (is-a h) = is-a h
-  of-turn (has h) = has h
-  of-turn (had h) = had h
-  of-turn (joins h) = joined h
-  of-turn (joined h) = joins h
-
-  pub of-having : {x : Node} {a b : ℕ} → TypeOf ρ f x a b → TypeOf ρ f (having x) a a
-  of-having (is-a h) = is-a h
-  of-having (has h) = has h
-  of-having (had h) = had h
-  of-having (joins h) = has h
-  of-having (joined h) = had h
-
   in-concept : ofConcept f ≡ true → {x : Typ} → List·Memᴰ x (conceptTypes (f .predicate) (ρ (f .subject))) → Of ρ f x
   in-concept h (List·Memᴰ·head e) = subst⁻¹ (Of ρ f) e (is-a h)
   in-concept h (List·Memᴰ·tail m) = elim m [ ]
@@ -119,14 +105,14 @@ module _ (ρ : ℕ → ℕ) (p : Typ → Typ → Bool) (f g : Fact) where
   pub meet-some : meet ρ p f g ≡ true → Meeting ρ p f g
   unfolding meet
   meet-some h =
-      let k = any-some (λ x. any (λ y. p x y) (typesOf ρ g)) (typesOf ρ f) h in
-      let l = any-some (λ y. p (k .element) y) (typesOf ρ g) (k .passes) in
-      record { left = k .element; right = l .element; of-left = listed-of (k .member); of-right = listed-of (l .member); meets = l .passes }
+      let k = any-found (λ x. any (λ y. p x y) (typesOf ρ g)) (typesOf ρ f) h in
+      let l = any-found (λ y. p (k .one) y) (typesOf ρ g) (k .passes) in
+      record { left = k .one; right = l .one; of-left = listed-of (k .within); of-right = listed-of (l .within); meets = l .passes }
 
   pub some-meet : {x y : Node} {a b c d : ℕ} → TypeOf ρ f x a b → TypeOf ρ g y c d → p (typ x a b) (typ y c d) ≡ true → meet ρ p f g ≡ true
   unfolding meet
   some-meet {x} {y} {a} {b} {c} {d} i j h =
-      some-any (λ u. any (λ v. p u v) (typesOf ρ g)) (of-listed i) (some-any (λ v. p (typ x a b) v) (of-listed j) h)
+      any-of (λ u. any (λ v. p u v) (typesOf ρ g)) (of-listed i) (any-of (λ v. p (typ x a b) v) (of-listed j) h)
 
 module _ (ρ : ℕ → ℕ) (s : Site) (t : Follows) (d : Decides s t) where
   jar-against : (f g : Fact) → meet ρ (jar t) f g ≡ true → Against ρ s f g
@@ -153,7 +139,7 @@ module _ (ρ : ℕ → ℕ) (s : Site) (t : Follows) (d : Decides s t) where
 
   pub contradict-against : (f g : Fact) → contradict ρ t f g ≡ true → Against ρ s f g
   unfolding contradict split
-  contradict-against f g h = go (or-either (meet ρ (jar t) f g) _ h)
+  contradict-against f g h = go (or-cases (meet ρ (jar t) f g) _ h)
     where
       go : (meet ρ (jar t) f g ≡ true) ⊎ (meet ρ (split t) f g ≡ true) → Against ρ s f g
       go (inl e) = jar-against f g e
@@ -167,7 +153,7 @@ module _ (ρ : ℕ → ℕ) (s : Site) (t : Follows) (d : Decides s t) where
           let front = and-left (one && two && three) _ (m .meets) in
           let both = and-left (one && two) _ front in
           split-against (x .node) (y .node) (m .of-left) (m .of-right)
-          (sameNode-is _ _ (and-left one _ both))
+          (same-node _ _ (and-left one _ both))
           (and-right one _ both)
           (eqb-true _ _ (and-right (one && two) _ front))
           (eqb-false _ _ (not-true _ (and-right (one && two && three) _ (m .meets))))
@@ -185,7 +171,7 @@ module _ (ρ : ℕ → ℕ) (s : Site) (t : Follows) (d : Decides s t) where
   splits-meet {f} {g} {q = q} {a = a} {b = b} {c = c} i j m n =
       some-meet ρ (split t) f g i j
       (and-both _ _
-      (and-both _ _ (and-both _ _ (sameRole-self q) (d .functional-by q .1 m)) (eq-eqb a a refl))
+      (and-both _ _ (and-both _ _ (same-role-refl q) (d .functional-by q .1 m)) (eq-eqb a a refl))
       (ap not (ne-eqb b c n)))
 
   pub against-contradict : {f g : Fact} → Against ρ s f g → contradict ρ t f g ≡ true

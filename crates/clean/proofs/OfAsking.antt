@@ -1,0 +1,93 @@
+-- Picking a fact by its number, and the lowest kept fact that supports a question, turn by turn.
+use Prim.Native.Nat.{ℕ, zero, suc, _+_, _-_, _≤_, _<_}
+use mathlib.Core.Path.{_≡_, refl, sym, ap, subst, _∙_}
+use mathlib.Core.Bool.{Bool, true, false, _&&_, and-true, and-false}
+use mathlib.Core.List.{List, [], _∷_}
+use lib.ListN.{length, getD}
+use lib.Dec.{eqb}
+use native.Mathlib.Omega.{arith}
+use borrow.Author.Needs.{needs}
+use Rattle.number.specs.declared.refusal.Refusal.{Refusal}
+use Rattle.site.specs.declared.fact.Fact.{Fact}
+use Rattle.site.specs.Lists.{any, first}
+use Rattle.bundle.specs.Bundle.{factAt, factsIn, factsOf}
+use Rattle.bundle.specs.Told.{factTold}
+use Rattle.bundle.specs.declared.facts.Facts.{Facts}
+use Rattle.bundle.specs.declared.one.FactRead.{FactRead}
+use Rattle.bundle.specs.declared.one.FactRead.the-variants.{Read as ReadFact, Refused as NoFact}
+use Rattle.follows.specs.Tables.{Follows}
+use Rattle.clean.specs.Types.{itself}
+use Rattle.clean.specs.Marks.{mark, marked, partner}
+use Rattle.clean.specs.Coded.{bitsFollow, supportsCoded, supportIn}
+use Rattle.clean.specs.declared.answers.Judged.{Judged}
+use Rattle.clean.specs.declared.types.Typ.{Typ}
+use Rattle.clean.proofs.OfWalks.{facts-stop, facts-more, Seeking, seek-start, seek-ends, seek-stops, seek-found, seek-on}
+
+abbrev no-fact : Fact
+no-fact = record { predicate = 0; subject = 0; object = 0 }
+
+-- the fact of a number is the one so many further on
+pub record Picking (whole : List Fact) (number : ℕ) (s : List ℕ) (left at skip : ℕ) : Type 0 where
+  pub same : getD whole number no-fact ≡ getD (factsIn s left at) skip no-fact
+  pub inside : skip < left
+
+pub pick-start : (s : List ℕ) (n at number : ℕ) → number < n → Picking (factsIn s n at) number s n at number
+pick-start s n at number h = record { same = refl; inside = h }
+
+module _ (whole : List Fact) (number : ℕ) (s : List ℕ) (left at skip : ℕ) (so : Picking whole number s left at skip) where
+  pub some-left : 1 ≤ left
+  some-left = omega (arith, so .inside)
+
+  module _ (e : FactRead) (is : factTold e ≡ factAt (λ _. true) s at) where
+    pub pick-stops : (r : Refusal) → e ≡ NoFact r → (f : Fact) → f ≡ no-fact → f ≡ getD whole number no-fact
+    pick-stops r stopped f is-f =
+        is-f ∙ sym (so .same ∙ ap (λ (l : List Fact). getD l skip no-fact) (facts-stop s left at (omega (arith, so .inside)) e is r stopped))
+
+    module _ (f : Fact) (next : ℕ) (read : e ≡ ReadFact f next) where
+      found : getD whole number no-fact ≡ getD (f ∷ factsIn s (left - 1) next) skip no-fact
+      found = so .same ∙ ap (λ (l : List Fact). getD l skip no-fact) (facts-more s left at (omega (arith, so .inside)) e is f next read)
+
+      pub pick-on : 0 < skip → Picking whole number s (left - 1) next (skip - 1)
+      pick-on h =
+          let one : skip ≡ suc (skip - 1) = omega arith in
+          record { same = found ∙ ap (λ (k : ℕ). getD (f ∷ factsIn s (left - 1) next) k no-fact) one; inside = omega (arith, so .inside) }
+
+      pub pick-found : skip ≤ 0 → f ≡ getD whole number no-fact
+      pick-found over =
+          let none : skip ≡ 0 = omega arith in
+          sym (found ∙ ap (λ (k : ℕ). getD (f ∷ factsIn s (left - 1) next) k no-fact) none)
+
+-- a kept fact that supports
+module _ (t : Follows) (whole : List Fact) (f : Fact) (b supported : Bool) (is : b ≡ supported) where
+  pub keeps-so : b ≡ true → (j : Judged) → j ≡ record { mark = mark itself t whole f; partner = partner itself t whole f }
+      → eqb (j .mark) 0 ≡ (marked itself t whole 0 f && supported)
+  unfolding marked
+  keeps-so e j is-j = rw (← is, e, and-true, is-j)
+
+  pub keeps-not : b ≡ false → false ≡ (marked itself t whole 0 f && supported)
+  keeps-not e = rw (← is, e, and-false)
+
+module _ (included excluded : List ℕ) (functional : ℕ) (bundle : List ℕ) (facts : Facts) (asked : Typ) where
+  abbrev pub supporting : Fact → Bool
+  supporting f = marked itself (bitsFollow [] excluded functional) (factsOf bundle facts) 0 f && supportsCoded included asked f
+
+  module _ (i left at : ℕ) (so : Seeking (facts .count) supporting (factsOf bundle facts) bundle (facts .count) i left at) where
+    pub support-ends : left ≤ 0 → facts .count ≡ supportIn included excluded functional bundle facts asked
+    unfolding supportIn
+    support-ends over = seek-ends (facts .count) supporting (factsOf bundle facts) bundle (facts .count) i left at so over
+
+    module _ (more : 0 < left) (e : FactRead) (is : factTold e ≡ factAt (λ _. true) bundle at) where
+      pub support-stops : (r : Refusal) → e ≡ NoFact r → facts .count ≡ supportIn included excluded functional bundle facts asked
+      unfolding supportIn
+      support-stops r stopped = seek-stops (facts .count) supporting (factsOf bundle facts) bundle (facts .count) i left at so more e is r stopped
+
+      module _ (f : Fact) (next : ℕ) (read : e ≡ ReadFact f next) (r : Bool) (is-r : r ≡ supporting f) where
+        pub support-found : r ≡ true → i ≡ supportIn included excluded functional bundle facts asked
+        unfolding supportIn
+        support-found t = seek-found (facts .count) supporting (factsOf bundle facts) bundle (facts .count) i left at so more e is f next read (sym is-r ∙ t)
+
+        pub support-on : r ≡ false → Seeking (facts .count) supporting (factsOf bundle facts) bundle (facts .count) (i + 1) (left - 1) next
+        support-on t = seek-on (facts .count) supporting (factsOf bundle facts) bundle (facts .count) i left at so more e is f next read (sym is-r ∙ t)
+
+pub ruleset asking =
+    (pick-start, some-left, pick-stops, pick-on, pick-found, keeps-so, keeps-not, seek-start, support-ends, support-stops, support-found, support-on, needs)
