@@ -17,7 +17,6 @@ use Rattle.site.specs.Lists.{upTo, each}
 use Rattle.site.proofs.Lists.{each-of, of-each, below-of-upTo, upTo-of-below, or-cases, or-left}
 use Rattle.rules.specs.Lawful.{Lawful}
 use Rattle.follows.specs.Bits.{bitOf, Has}
-use Rattle.follows.specs.Closed.{Closed}
 use Rattle.follows.specs.Closed.Closed.{here, one, on}
 use Rattle.follows.specs.Listed.{Listed}
 use Rattle.follows.specs.Passes.{Within, Reach, Closes}

@@ -1,7 +1,7 @@
 -- The filled tables say what the definition's tables say: both pass exactly where the relations hold.
 use Prim.Native.Nat.{ℕ, _<_}
-use mathlib.Core.Path.{_≡_, refl, sym, ap, subst, _∙_}
-use mathlib.Core.Bool.{Bool, true, false}
+use mathlib.Core.Path.{_≡_, refl, ap, subst, _∙_}
+use mathlib.Core.Bool.{true}
 use mathlib.Core.List.{List}
 use lib.ListN.{replicate}
 use borrow.Author.Needs.{needs}
@@ -9,6 +9,7 @@ use Rattle.site.specs.Kinds.{BasicRole, Node, Site, declared}
 use Rattle.site.specs.Codes.{roleOf, roleCode, nodeOf, nodeCode}
 use Rattle.site.specs.Lists.{each}
 use Rattle.site.specs.declared.nodes.Declared.{Declared}
+use Rattle.site.proofs.Lists.{same-test}
 use Rattle.rules.specs.Lawful.{Lawful}
 use Rattle.rules.specs.RuleFile.{rulesIn, siteOf}
 use Rattle.rules.specs.declared.head.Head.{Head}
@@ -24,12 +25,6 @@ use Rattle.follows.proofs.Numbers.{code-node, role-of-code}
 use Rattle.follows.proofs.Bridge.{included-based, on-based, excluded-out, excluded-in}
 use Rattle.follows.proofs.Filling.{blank-table, zeros-table}
 
--- two tests that pass together are the same
-together : (a b : Bool) → (a ≡ true → b ≡ true) → (b ≡ true → a ≡ true) → a ≡ b
-together true b f g = sym (f refl)
-together false true f g = g refl
-together false false f g = refl
-
 module _ (s : Site) (inc₀ inc₁ inc₂ on₀ on₁ on₂ on₃ exc₀ exc₁ exc₂ : List ℕ) (word : ℕ)
     (blank-inc : Blank inc₀) (inc-added : AddedAll (each arrowsOf (s .rules)) inc₀ inc₁) (inc-closed : Closes (s .concepts) (s .roles) inc₁ inc₂)
     (blank-on : Blank on₀) (on-added : AddedAll (each arrowsOf (s .rules)) on₀ on₁) (on-rings : AddedAll (rings (s .roles)) on₁ on₂)
@@ -39,7 +34,7 @@ module _ (s : Site) (inc₀ inc₁ inc₂ on₀ on₁ on₂ on₃ exc₀ exc₁ 
   by-included lawful x y =
       let d = (decides s lawful) .included (nodeOf x) (nodeOf y) in
       let i = included-based s lawful inc₀ inc₁ inc₂ blank-inc inc-added inc-closed in
-      together (has inc₂ x y) ((followsOf s) .isIncluded (nodeOf x) (nodeOf y))
+      same-test (has inc₂ x y) ((followsOf s) .isIncluded (nodeOf x) (nodeOf y))
       (λ h. d .1 (leads-included s (i .out x y h)))
       (λ h. i .into x y (included-leads s lawful (d .0 h)))
 
@@ -48,14 +43,14 @@ module _ (s : Site) (inc₀ inc₁ inc₂ on₀ on₁ on₂ on₃ exc₀ exc₁ 
       let d = (decides s lawful) .excluded (nodeOf x) (nodeOf y) in
       let i = included-based s lawful inc₀ inc₁ inc₂ blank-inc inc-added inc-closed in
       let l = on-based s lawful on₀ on₁ on₂ on₃ blank-on on-added on-rings on-closed in
-      together (has exc₂ x y) ((followsOf s) .isExcluded (nodeOf x) (nodeOf y))
+      same-test (has exc₂ x y) ((followsOf s) .isExcluded (nodeOf x) (nodeOf y))
       (λ h. d .1 (excluded-out s lawful exc₀ exc₁ blank-exc exc-added inc₂ on₃ i l exc₂ shut x y h))
       (λ h. excluded-in s lawful exc₀ exc₁ blank-exc exc-added inc₂ on₃ i l exc₂ shut x y (d .0 h))
 
   by-functional : (q : ℕ) → q < 64 → bitOf word q ≡ (followsOf s) .isFunctional (roleOf q)
   unfolding followsOf followsFrom
   by-functional q h =
-      together (bitOf word q) ((followsOf s) .isFunctional (roleOf q))
+      same-test (bitOf word q) ((followsOf s) .isFunctional (roleOf q))
       (λ b. functional-in (s .rules) (roleOf q) (functionals .came q b))
       (λ b. functionals .comes q h (functional-out (s .rules) (roleOf q) b))
 
