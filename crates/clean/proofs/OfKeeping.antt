@@ -50,7 +50,7 @@ short-object f = by (ofConcept f)
     by true = omega arith
     by false = at-most-three (f .object)
 
-fact-short : (f : Fact) → length (factBytes f) ≤ 9
+pub fact-short : (f : Fact) → length (factBytes f) ≤ 9
 unfolding factBytes
 fact-short f = simp length-append (omega (arith, at-most-three (f .predicate), at-most-three (f .subject), short-object f))
 

@@ -1,0 +1,3 @@
+pub mod OfKeptBundle
+pub mod OfOperations
+pub mod OfQuestions
