@@ -376,3 +376,14 @@ module _ (h : Head) (few : h .roles ≤ mostRoles) (room : ℕ) (records : List 
           → _≡_ {A = Answer (List ℕ)} (cond (leb n room) (gives (bundleOf records)) (refuses (refusal 9 2 0))) (cond t (refuses (refusal 9 2 0)) (gives (bundleOf records)))
       by-room n true is = rw (lt-leb n room (ltb-true room n (sym is)))
       by-room n false is = rw (le-leb n room (ltb-false room n (sym is)))
+
+-- and where it gives the bundle, the second pass stores it
+pub record StoredAll (h : Head) (out : List ℕ) (records : List Fact) : Type 0 where
+  pub memory : memoryAfter h (sets out 0 (bytesOf (length records))) (started (length records) (length out) true) records ≡ sets out 0 (bundleOf records)
+  pub place : stateAfter h (length out) (started (length records) (length out) true) records .at ≡ length (bundleOf records)
+
+module _ (h : Head) (few : h .roles ≤ mostRoles) (out : List ℕ) (records : List Fact) (few-records : length records ≤ mostFacts) where
+  pub plan-stored : (k : ℕ) → recordsFrom h none 0 records ≡ gives k → length (bundleOf records) ≤ length out → StoredAll h out records
+  plan-stored k e room =
+      let fine = sound-records h few none 0 k records e in
+      record { memory = stores-all h records fine few-records out room; place = ends-all h (length out) records fine few-records true room }
