@@ -7,9 +7,9 @@ use Rattle.number.specs.Answer.{Answer, Read}
 use Rattle.number.specs.Answer.Answer.{gives, refuses}
 use Rattle.site.specs.declared.fact.Fact.{Fact}
 use Rattle.rules.specs.declared.head.Head.{Head}
-use Rattle.bundle.specs.Again.{wroteTold, WritesAgain}
+use Rattle.bundle.specs.Again.{WritesAgain}
 use Rattle.bundle.specs.Bundle.{factAt, checkBundle}
-use Rattle.bundle.specs.Pushed.{Pushes}
+use Rattle.bundle.specs.Pushed.{Pushes, wroteTold}
 use Rattle.bundle.specs.Told.{factTold, bundleTold}
 use Rattle.bundle.specs.declared.facts.Facts.{Facts}
 use Rattle.bundle.specs.declared.one.FactRead.{FactRead}
@@ -17,8 +17,8 @@ use Rattle.bundle.specs.declared.one.FactRead.the-variants.{Read as Read
 use Rattle.bundle.specs.declared.check.BundleRead.{BundleRead}
 use Rattle.bundle.specs.declared.check.BundleRead.the-variants.{Accepted, Refused as RefusedBundle}
 use Rattle.bundle.specs.declared.writing.Writing.{Writing}
-use Rattle.bundle.specs.declared.again.BundleWrote.{BundleWrote}
-use Rattle.bundle.specs.declared.again.BundleWrote.the-variants.{Written, Refused}
+use Rattle.bundle.specs.declared.writing.BundleWrote.{BundleWrote}
+use Rattle.bundle.specs.declared.writing.BundleWrote.the-variants.{Written, Refused}
 
 -- what can be undone tells its arguments apart
 undone : {A B : Type 0} (f : A → B) (back : B → A) → ((a : A) → back (f a) ≡ a) → (a a′ : A) → f a ≡ f a′ → a ≡ a′
