@@ -1,4 +1,5 @@
 pub mod Accepted
+pub mod Cases
 pub mod Longest
 pub mod OneAnswer
 pub mod Pushing
