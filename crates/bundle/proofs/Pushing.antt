@@ -1,30 +1,26 @@
 -- What pushing facts one after the other comes to: the first fault is that of `recordsFrom`, the room is too short exactly if the bytes are longer,
 -- and in the pass that stores the memory holds the facts' bytes. Each by the facts in order.
-use Prim.Native.Nat.{ℕ, zero, suc, _+_, _-_, _≤_, _<_}
+use Prim.Native.Nat.{ℕ, zero, suc, _+_, _≤_, _<_}
 use mathlib.Core.Path.{_≡_, refl, sym, ap, _∙_}
-use mathlib.Core.Bool.{Bool, true, false, cond, _&&_, _||_, not, true≢false}
-use mathlib.Core.List.{List, [], _∷_, _++_}
+use mathlib.Core.Bool.{Bool, true, false, cond, _||_, true≢false}
+use mathlib.Core.List.{List, [], _∷_}
 use lib.ListN.{length, length-append}
 use lib.Seq.{sets, length-sets}
-use lib.Dec.{ltb, leb, eqb}
+use lib.Dec.{ltb, leb}
 use native.Mathlib.Omega.{arith}
-use borrow.Author.Tests.{lt-ltb, le-ltb, le-leb, lt-leb, leb-true, leb-false, ltb-true, ltb-false, eq-eqb, ne-eqb, eqb-true}
+use borrow.Author.Tests.{lt-ltb, le-ltb, le-leb, lt-leb, leb-true, leb-false, ltb-true, ltb-false, ne-eqb}
 use Rattle.number.specs.Answer.{Answer, refusal, _then_, over, laid}
 use Rattle.number.specs.Answer.Answer.{gives, refuses}
 use Rattle.number.specs.Number.{bytesOf}
-use Rattle.number.proofs.Laws.{Bounds, bounds}
 use Rattle.number.proofs.Writing.{picked}
 use Rattle.site.specs.declared.fact.Fact.{Fact}
-use Rattle.site.specs.Kinds.{ofConcept}
-use Rattle.site.specs.Limits.{mostFacts, mostNumber, mostRoles, mostThing}
+use Rattle.site.specs.Limits.{mostFacts, mostNumber, mostRoles}
 use Rattle.site.specs.Lists.{each}
 use Rattle.rules.specs.declared.head.Head.{Head}
-use Rattle.bundle.specs.Bundle.{Last, ascends, factBytes, predicateKnown, bundleOf}
+use Rattle.bundle.specs.Bundle.{Last, factBytes, predicateKnown, bundleOf}
 use Rattle.bundle.specs.Bundle.Last.{none, after}
-use Rattle.bundle.specs.Lawful.{LawfulFact, LawfulFrom, LawfulFacts}
-use Rattle.bundle.specs.Lawful.LawfulFrom.{done, next}
 use Rattle.bundle.specs.Records.{roomFor, recordFault, recordsFrom, planRecords}
-use Rattle.bundle.specs.Told.{lastOf, beforeFirst, afterFact}
+use Rattle.bundle.specs.Told.{lastOf, afterFact}
 use Rattle.bundle.specs.Pushed.{started, overfull, startOf, faultOf, stopped, counted, judged, settled, shortened, movedTo, placed, storedBy, stateAfter, memoryAfter, secondStart, countStored, answerOf, firstState, lastState, lastMemory}
 use Rattle.bundle.specs.declared.writing.Writing.{Writing}
 use Rattle.bundle.proofs.Longest.{declared-low}

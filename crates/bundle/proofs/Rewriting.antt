@@ -1,29 +1,27 @@
 -- Writing an accepted bundle's facts: the loop's turns, the two passes put together, and the law that the same bytes come out.
-use Prim.Native.Nat.{ℕ, zero, suc, _+_, _-_, _≤_, _<_}
+use Prim.Native.Nat.{ℕ, suc, _+_, _-_, _≤_, _<_}
 use mathlib.Core.Path.{_≡_, refl, sym, ap, _∙_}
-use mathlib.Core.Bool.{Bool, true, false, cond, _&&_, not}
+use mathlib.Core.Bool.{Bool, true, false, _&&_, not}
 use mathlib.Core.List.{List, [], _∷_}
 use lib.ListN.{length}
-use lib.Seq.{sets, length-sets}
-use lib.Dec.{ltb, leb, eqb}
+use lib.Seq.{length-sets}
+use lib.Dec.{leb, eqb}
 use native.Mathlib.Omega.{arith}
-use borrow.Author.Tests.{lt-ltb, le-leb, lt-leb, ltb-true, ltb-false, eq-eqb}
+use borrow.Author.Tests.{le-leb, eq-eqb}
 use borrow.Author.Needs.{needs}
-use Rattle.number.specs.Answer.{Answer, Read, refusal, _then_, over, laid}
+use Rattle.number.specs.Answer.{Answer, _then_, over}
 use Rattle.number.specs.Answer.Answer.{gives, refuses}
-use Rattle.number.specs.Number.{bytesOf, threeBytes}
-use Rattle.number.specs.Told.{Stores, Stored}
+use Rattle.number.specs.Number.{bytesOf}
 use Rattle.number.specs.declared.refusal.Refusal.{Refusal}
-use Rattle.number.proofs.Laws.{Bytes, Bounds, bounds}
+use Rattle.number.proofs.Laws.{Bytes, bounds}
 use Rattle.number.proofs.Writing.{picked}
 use Rattle.site.specs.declared.fact.Fact.{Fact}
 use Rattle.site.specs.Kinds.{ofConcept}
-use Rattle.site.specs.Limits.{mostFacts, mostNumber, mostRoles, mostThing}
+use Rattle.site.specs.Limits.{mostNumber, mostRoles, mostThing}
 use Rattle.rules.specs.declared.head.Head.{Head}
 use Rattle.bundle.specs.Again.{planAgain, WritesAgain, PushesAll, FirstPass, SecondPass}
 use Rattle.bundle.specs.Bundle.{Last, factAt, ascends, factsIn, factsOf, predicateKnown, checkBundle, readBundle, factBytes, bundleOf}
-use Rattle.bundle.specs.Bundle.Last.{none}
-use Rattle.bundle.specs.Lawful.{LawfulFact, LawfulFrom, LawfulFacts}
+use Rattle.bundle.specs.Lawful.{LawfulFact, LawfulFrom}
 use Rattle.bundle.specs.Lawful.LawfulFrom.{done, next as one-more}
 use Rattle.bundle.specs.Pushed.{startOf, faultOf, judged, settled, placed, storedBy, Pushes, stateAfter, memoryAfter, secondStart, countStored, Begins, wroteTold, answerOf}
 use Rattle.bundle.specs.Records.{roomFor, recordFault}
@@ -36,7 +34,7 @@ use Rattle.bundle.specs.declared.check.BundleRead.the-variants.{Accepted
 use Rattle.bundle.specs.declared.writing.Writing.{Writing}
 use Rattle.bundle.specs.declared.writing.BundleWrote.{BundleWrote}
 use Rattle.bundle.specs.declared.writing.BundleWrote.the-variants.{Refused}
-use Rattle.bundle.proofs.Runs.{FactThere, Run}
+use Rattle.bundle.proofs.Runs.{Run}
 use Rattle.bundle.proofs.Runs.Run.{stop, more}
 use Rattle.bundle.proofs.Accepted.{lawful-fact, BundleThere, bundle-there}
 use Rattle.bundle.proofs.Longest.{declared-low}

@@ -1,6 +1,6 @@
 -- Facts that are read one after the other: what a fact's numbers are where it is read, and an accepted walk as one list of such steps.
 -- A run is what acceptance gives, and a run gives acceptance; every law about a bundle's facts goes by the run's steps.
-use Prim.Native.Nat.{ℕ, zero, suc, _+_, _≤_, _<_}
+use Prim.Native.Nat.{ℕ, zero, suc, _<_}
 use mathlib.Core.Path.{_≡_, refl, sym, ap, ap₂, _∙_}
 use mathlib.Core.Bool.{Bool, true, false, cond}
 use mathlib.Core.List.{List, [], _∷_}
@@ -12,11 +12,11 @@ use Rattle.number.specs.Answer.Answer.{gives, refuses}
 use Rattle.number.specs.Number.{numberAt}
 use Rattle.number.specs.declared.refusal.Refusal.{Refusal}
 use Rattle.site.specs.declared.fact.Fact.{Fact}
-use Rattle.site.specs.Items.{codeAt, onward}
+use Rattle.site.specs.Items.{codeAt}
 use Rattle.site.specs.Kinds.{ofConcept}
 use Rattle.site.specs.Limits.{mostNumber, mostThing}
 use Rattle.bundle.specs.Bundle.{Last, factAt, ascends, factsFrom, factsIn}
-use Rattle.bundle.specs.Bundle.Last.{none, after}
+use Rattle.bundle.specs.Bundle.Last.{after}
 use Rattle.bundle.specs.Told.{factRest}
 
 -- an answer is not both

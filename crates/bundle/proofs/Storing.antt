@@ -1,5 +1,5 @@
 -- What the tests of the writing functions say of a fact's bytes and of the writing's state: one law for each way out.
-use Prim.Native.Nat.{ℕ, zero, suc, _+_, _-_, _≤_, _<_, _^_}
+use Prim.Native.Nat.{ℕ, suc, _+_, _-_, _≤_, _<_, _^_}
 use mathlib.Core.Path.{_≡_, refl, sym, ap, _∙_}
 use mathlib.Core.Bool.{Bool, true, false, cond, _&&_, _||_, not, true≢false}
 use mathlib.Core.List.{List, [], _∷_, _++_, append-nil}
@@ -9,9 +9,9 @@ use lib.Dec.{ltb, leb, eqb}
 use mir.Val.{Fits}
 use mir.Syntax.{w32, w64}
 use native.Mathlib.Omega.{arith}
-use borrow.Author.Tests.{lt-ltb, le-ltb, le-leb, lt-leb, ne-eqb, leb-true, leb-false, ltb-false, not-true, not-false, eqb-true}
+use borrow.Author.Tests.{lt-ltb, le-ltb, le-leb, lt-leb, leb-true, ltb-false, not-true, not-false}
 use borrow.Author.Needs.{needs}
-use Rattle.number.specs.Answer.{Answer, refusal, over, laid}
+use Rattle.number.specs.Answer.{refusal, over, laid}
 use Rattle.number.specs.Answer.Answer.{gives, refuses}
 use Rattle.number.specs.Number.{bytesOf, plan, threeBytes}
 use Rattle.number.specs.Told.{toldWrote, Writes, Stores, Stored}
@@ -28,7 +28,7 @@ use Rattle.rules.specs.declared.head.Head.{Head}
 use Rattle.bundle.specs.Bundle.{Last, ascends, factBytes, predicateKnown}
 use Rattle.bundle.specs.Records.{recordFault}
 use Rattle.bundle.specs.Told.{lastOf, beforeFirst, afterFact}
-use Rattle.bundle.specs.Pushed.{StoresFact, StoredFact, started, overfull, startOf, faultOf, stopped, counted, judged, settled, shortened, movedTo, placed, storedBy, Pushes, closed, secondStart, countStored, Begins, answerOf}
+use Rattle.bundle.specs.Pushed.{StoresFact, StoredFact, started, overfull, startOf, faultOf, stopped, judged, settled, shortened, movedTo, placed, storedBy, Pushes, closed, secondStart, countStored, Begins, answerOf}
 use Rattle.bundle.specs.declared.before.Before.{Before}
 use Rattle.bundle.specs.declared.writing.Writing.{Writing}
 use Rattle.bundle.proofs.Runs.{never, same-given}

@@ -1,7 +1,7 @@
 -- Some of a lawful list's facts, in their order, are lawful too: the order of facts is transitive. So the bundle of the kept facts is accepted.
-use Prim.Native.Nat.{ℕ, zero, suc, _+_, _≤_, _<_}
-use mathlib.Core.Path.{_≡_, refl, sym, ap, _∙_}
-use mathlib.Core.Bool.{Bool, true, false, cond, _&&_, _||_, or-true, true≢false}
+use Prim.Native.Nat.{suc, _≤_, _<_}
+use mathlib.Core.Path.{_≡_, refl, sym, _∙_}
+use mathlib.Core.Bool.{Bool, true, false, _&&_, _||_, or-true, true≢false}
 use mathlib.Core.List.{List, [], _∷_}
 use lib.ListN.{length}
 use lib.Dec.{ltb, eqb}
@@ -10,12 +10,11 @@ use borrow.Author.Tests.{lt-ltb, ltb-true, eq-eqb, eqb-true}
 use Rattle.number.proofs.Writing.{picked}
 use Rattle.site.specs.declared.fact.Fact.{Fact}
 use Rattle.site.specs.Kinds.{below}
-use Rattle.site.specs.Limits.{mostFacts}
 use Rattle.site.specs.Lists.{keep}
 use Rattle.rules.specs.declared.head.Head.{Head}
 use Rattle.bundle.specs.Bundle.{Last, ascends}
 use Rattle.bundle.specs.Bundle.Last.{none, after}
-use Rattle.bundle.specs.Lawful.{LawfulFact, LawfulFrom, LawfulFacts}
+use Rattle.bundle.specs.Lawful.{LawfulFrom, LawfulFacts}
 use Rattle.bundle.specs.Lawful.LawfulFrom.{done, next}
 
 -- the order of facts, by the number that decides it

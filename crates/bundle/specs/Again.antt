@@ -1,7 +1,7 @@
 -- Writing an accepted bundle's facts as a bundle: the answer and the lent memory, and one pass over the facts.
 use Prim.Native.Nat.{ℕ}
 use mathlib.Core.Path.{_≡_}
-use mathlib.Core.Bool.{true, false}
+use mathlib.Core.Bool.{false}
 use mathlib.Core.List.{List}
 use lib.ListN.{length}
 use Rattle.number.specs.Answer.{Answer, _then_, over, laid}

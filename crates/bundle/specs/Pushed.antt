@@ -1,11 +1,11 @@
 -- Writing facts that are given one after the other: what one more fact does to the state of the writing and to the lent memory.
 use Prim.Native.Nat.{ℕ, _+_, _≤_}
 use mathlib.Core.Path.{_≡_}
-use mathlib.Core.Bool.{Bool, true, false, cond, _&&_, _||_, not}
+use mathlib.Core.Bool.{Bool, true, false, cond, _||_}
 use mathlib.Core.List.{List, [], _∷_}
 use lib.ListN.{length}
 use lib.Seq.{sets}
-use lib.Dec.{ltb, leb, eqb}
+use lib.Dec.{ltb, leb}
 use Rattle.number.specs.Answer.{Answer, refusal}
 use Rattle.number.specs.Answer.Answer.{gives, refuses}
 use Rattle.number.specs.Number.{bytesOf, threeBytes}
@@ -13,7 +13,6 @@ use Rattle.site.specs.declared.fact.Fact.{Fact}
 use Rattle.site.specs.Limits.{mostFacts, mostNumber}
 use Rattle.rules.specs.declared.head.Head.{Head}
 use Rattle.bundle.specs.Bundle.{Last, factBytes}
-use Rattle.bundle.specs.Bundle.Last.{none, after}
 use Rattle.bundle.specs.Records.{recordFault}
 use Rattle.bundle.specs.Told.{lastOf, beforeFirst, afterFact}
 use Rattle.bundle.specs.declared.writing.Writing.{Writing}

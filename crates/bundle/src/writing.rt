@@ -1,7 +1,7 @@
 // Writing a bundle from facts that are given one after the other, in two passes over them: one that judges and measures, and one that stores.
 ghost use mathlib.Core.Path.{_≡_};
-ghost use mathlib.Core.Bool.{Bool, _&&_, _||_, not};
-ghost use lib.Dec.{eqb, ltb, leb};
+ghost use mathlib.Core.Bool.{_&&_, not};
+ghost use lib.Dec.{eqb, leb};
 ghost use Prim.Native.Nat.{_+_};
 ghost use Rattle.site.specs.Kinds.{ofConcept};
 ghost use Rattle.bundle.specs.Told.{lastOf};
