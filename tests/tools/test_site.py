@@ -298,6 +298,8 @@ class Text(unittest.TestCase):
         with tempfile.TemporaryDirectory() as folder:
             status, _, errors = run("check", put(folder, "site.txt", b"concept A\nA \xff\n"))
             self.assertEqual((status, "site.txt:2: expected UTF-8 text, found the byte FF" in errors), (1, True))
+            status, _, errors = run("check", put(folder, "site.txt", "concept A\r\n# hides \u2028A 1\n"))
+            self.assertEqual((status, "site.txt:2: expected lines ended by LF, CR LF or CR, found the character U+2028" in errors), (1, True))
             self.assertEqual(run("check", os.path.join(folder, "none"))[0], 1)
             self.assertEqual(run("build", "x")[0], 2)
 
@@ -420,7 +422,8 @@ def numbers(cell):
 class Documents(unittest.TestCase):
     def test_examples_of_refusals(self):
         seen = set()
-        for number, call, rules, bundle, args, side, place in rows(document("REFUSALS.md"), "## Examples"):
+        text = document("REFUSALS.md")
+        for number, call, rules, bundle, args, side, place in rows(text, "## Examples") + rows(text, "Where two faults meet"):
             with self.subTest(call=call, rules=rules, bundle=bundle, args=args):
                 with self.assertRaises(model.Refusal) as caught:
                     CALLS[call](hex_of(rules), hex_of(bundle), numbers(args))
@@ -478,6 +481,70 @@ class Documents(unittest.TestCase):
         self.assertGreater(len(blocks), 0)
         for block in blocks:
             site.read_text(block)
+
+    def test_messages_of_the_text_document(self):
+        """Each message that TEXT.md shows comes from a text whose bad line is the one it names."""
+        names = "concept Switch\nrole uplink\nthing dev7 = 7\n"
+        causes = ("Switch dev8", "uplink dev7", "Switch < uplink", "Switch dev7")
+        shown = re.findall(r"^site\.txt:([0-9]+): (.*)$", document("TEXT.md"), re.M)
+        self.assertEqual(len(shown), len(causes))
+        for (line, message), cause in zip(shown, causes):
+            first = "\n" * 8 + "Switch 7\n" if "note" in message else ""
+            text = names + first
+            text += "\n" * (int(line) - 1 - text.count("\n")) + cause + "\n"
+            try:
+                told = site.read_text(text, "site.txt")[1]
+            except site.Faults as faults:
+                told = faults.messages
+            self.assertEqual(told, [f"site.txt:{line}: {message}"])
+
+    def test_runs_of_the_text_document(self):
+        folder = new_folder(self)
+        text = document("TEXT.md")
+        _, printed, _ = run("build", "examples/worked-site/site.txt", "-o", folder)
+        self.assertIn(printed.replace(folder, "site"), text)
+        self.assertIn(run("listing", folder, stdin=LISTING.encode())[1], text)
+
+    def test_examples_of_the_api(self):
+        text = document("API.md")
+        self.assertEqual(model.mark(R, F, 6, 6), ((6, 1, 1, 4), [2, 2, 0, 2, 2, 1], [1, 0, 65535, 1, 3, 65535]))
+        self.assertEqual(model.count(R, F), (6, 1, 1, 4))
+        self.assertIn("facts 6, kept 1, alone 1, disputed 4; marks 2 2 0 2 2 1; partners 1 0 65,535 1 3 65,535.", text)
+        self.assertEqual((model.ask(R, F, 4), model.ask(R, F, 5)), ((2, 3), (1, 65535)))
+        self.assertIn("fact 4 has mark 2, partner 3; fact 5 has mark 1, partner 65,535", text)
+        self.assertEqual((model.has(R, F, 64, 9), model.has(R, F, 0, 300), model.has(R, F, 0, 7), model.joins(R, F, 0, 9, 7)), (2, None, None, None))
+        self.assertEqual(model.write_kept(R, F, 3), bytes.fromhex("01 01 09"))
+        self.assertIn("length 3, bytes `01 01 09`", text)
+        self.assertIn(LISTING, text)
+
+    def test_header_and_api_agree(self):
+        text = document("API.md")
+        header = file_of(os.path.join(model.ROOT, "include"), "dzyunagor.h").decode()
+        defined = {name: int(value) for name, value in re.findall(r"#define (DZY_\w+) ([0-9]+)", header)}
+        told = {}
+        for names, values, _ in rows(text, "## Names"):
+            told.update(zip(re.findall(r"\w+", names), [int(v.replace(",", "")) for v in re.split(r", ", values)]))
+        self.assertEqual(told, defined)
+        functions = re.findall(r"^dzy_\w+ (dzy_\w+)\(", header, re.M)
+        self.assertEqual(len(functions), 8)
+        self.assertEqual(re.findall(r"^### (dzy_\w+)\(", text, re.M), functions)
+        calls = " ".join(row[0] for row in rows(document("REFUSALS.md"), "## Which call gives which"))
+        self.assertEqual(sorted(re.findall(r"dzy_\w+", calls)), sorted(functions))
+        self.assertEqual((defined["DZY_MOST_FACTS"], defined["DZY_MOST_THING"]), (site.MOST_FACTS, site.MOST_NUMBER))
+
+    def test_longest_files(self):
+        rules = site.write_rules(site.Site([""] * 64, [""] * 32, {}, [(0, 127, 127)] * 512, []))
+        bundle = model.bundle_of([(95, 65535 - k, 65535) for k in range(4095, -1, -1)])
+        self.assertEqual((len(rules), len(bundle)), (1540, 28674))
+        self.assertEqual((model.check_rules(rules), model.check_bundle(rules, bundle)), (512, 4096))
+        self.assertIn("1,540 bytes", document("FORMAT.md"))
+        self.assertIn("28,674 bytes", document("FORMAT.md"))
+
+    def test_the_programs_page(self):
+        page = file_of(os.path.join(model.ROOT, "man"), "cleaner.1").decode()
+        self.assertIn(LISTING, page)
+        self.assertEqual(model.listing(b"", b""), "refused 1 in rules at 0\n")
+        self.assertIn("refused 1 in rules at 0\n", page)
 
     def test_links_within_the_documents(self):
         docs = os.path.join(model.ROOT, "docs")
