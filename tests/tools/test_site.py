@@ -263,6 +263,7 @@ class Text(unittest.TestCase):
             ("functional some r", "expected one role"),
             ("functional r s", "expected one role"),
             ("caf\u00e9 x", "expected a name"),
+            ("A\u00a0x", "expected a name"),
         ):
             with self.subTest(line=line):
                 self.bad(HEAD + line + "\n", 7, words)
