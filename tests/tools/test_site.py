@@ -236,7 +236,7 @@ class Text(unittest.TestCase):
             ("A B", "which is a concept"),
             ("x A", "which is a thing"),
             ("A 65536", "expected a number to 65,535"),
-            ("A 999999999999", "expected a number to 65,535"),
+            ("A " + "9" * 5000, "expected a number to 65,535"),
             ("A 01", "without leading zeros"),
             ("A \u0661", "expected a number"),
             ("r- x y", "write the fact the other way round"),
