@@ -4,6 +4,7 @@ use crate::codes::{NUMBER_MOST, SOME};
 use crate::dice::Dice;
 use crate::due::Due;
 use crate::judge::Question;
+use crate::make_sites::Made;
 
 /// Arguments for one round over every entry point.
 pub struct Arguments {
@@ -29,15 +30,15 @@ impl Arguments {
         }
     }
 
-    pub fn thrown(dice: &mut Dice, due: &Due, things: &[u32]) -> Arguments {
+    pub fn thrown(dice: &mut Dice, due: &Due, made: &Made) -> Arguments {
         let facts = due.facts();
         Arguments {
             marks_room: room(dice, facts),
             partners_room: room(dice, facts),
             out_room: room(dice, due.kept_length()),
             fact: number_near(dice, facts as u64),
-            has: Question::Has { code: code(dice), thing: thing(dice, things) },
-            joins: Question::Joins { code: code(dice), from: thing(dice, things), to: thing(dice, things) },
+            has: Question::Has { code: code(dice, &made.basics), thing: thing(dice, &made.things) },
+            joins: joins(dice, made),
         }
     }
 }
@@ -77,15 +78,21 @@ fn number_near(dice: &mut Dice, bound: u64) -> u64 {
     }
 }
 
-fn code(dice: &mut Dice) -> u64 {
+fn joins(dice: &mut Dice, made: &Made) -> Question {
+    let code = code(dice, &made.roles);
+    Question::Joins { code, from: thing(dice, &made.things), to: thing(dice, &made.things) }
+}
+
+/// Mostly one of the site's own codes, if it has any.
+fn code(dice: &mut Dice, codes: &[u32]) -> u64 {
     match dice.below(8) {
-        0..=2 => dice.below(8) as u64,
-        3 | 4 => u64::from(SOME) + dice.below(8) as u64,
-        5 | 6 => dice.below(132) as u64,
-        _ => {
+        0 | 1 => dice.below(132) as u64,
+        2 => {
             let small = dice.below(128) as u64;
             huge(dice, small)
         }
+        _ if codes.is_empty() => 0,
+        _ => dice.pick(codes).into(),
     }
 }
 

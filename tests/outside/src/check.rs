@@ -1,7 +1,7 @@
 //! One operation on one pair of files: called on guarded memory, and its answer and all memory held to what is due.
 
 use crate::arguments::Arguments;
-use crate::cleaner::Cleaner;
+use crate::cleaner::{Answer, Asked, Cleaner, Counts, Length, Refusal};
 use crate::due::Due;
 use crate::judge::Question;
 use crate::lent::{worn_bytes, worn_words, Lent};
@@ -12,8 +12,11 @@ use std::fmt::Debug;
 const BYTE_GUARD: u8 = 0x5A;
 const WORD_GUARD: u16 = 0x5AA5;
 
-/// A difference, told in one line.
-pub type Checked = Result<(), String>;
+/// How many entry points there are.
+pub const OPERATIONS: usize = 8;
+
+/// What the cleaner answered, or a difference told in one line.
+pub type Checked<T> = Result<T, String>;
 
 /// A cleaner, the two files lent to it, and what is due on them.
 pub struct Check<'a> {
@@ -28,19 +31,19 @@ pub fn shown(case: &str, rules: &[u8], bundle: &[u8]) -> String {
     format!("case   {case}\nrules  {}\nbundle {}", hex(rules), hex(bundle))
 }
 
-fn same<T: Debug + PartialEq>(what: &str, got: T, due: T) -> Checked {
+fn same<T: Debug + PartialEq>(what: &str, got: T, due: T) -> Checked<T> {
     if got == due {
-        Ok(())
+        Ok(got)
     } else {
         Err(format!("{what}: got {got:?}, due {due:?}"))
     }
 }
 
-fn row_written<T: Copy + Debug + PartialEq>(what: &str, lent: &Lent<T>, due: &[T]) -> Checked {
+fn row_written<T: Copy + Debug + PartialEq>(what: &str, lent: &Lent<T>, due: &[T]) -> Checked<()> {
     if !lent.guards_stand() {
         return Err(format!("{what}: written outside of the lent row"));
     }
-    same(what, lent.row(), due)
+    same(what, lent.row(), due).map(|_| ())
 }
 
 impl<'a> Check<'a> {
@@ -49,78 +52,76 @@ impl<'a> Check<'a> {
         Check { cleaner, due, rules: lend(rules), bundle: lend(bundle) }
     }
 
-    fn files_unchanged(&self, what: &str) -> Checked {
+    /// Passes an answer on if both files are as they were.
+    fn files_unchanged<T>(&self, what: &str, got: T) -> Checked<T> {
         if self.rules.unchanged() && self.bundle.unchanged() {
-            Ok(())
+            Ok(got)
         } else {
             Err(format!("{what}: a file that was lent for reading has changed"))
         }
     }
 
-    pub fn mark(&self, marks_room: usize, partners_room: usize) -> Checked {
+    pub fn mark(&self, marks_room: usize, partners_room: usize) -> Checked<Counts> {
         let (mut due_marks, mut due_partners) = (worn_bytes(marks_room), worn_words(partners_room));
         let mut marks = Lent::holding(&due_marks, BYTE_GUARD);
         let mut partners = Lent::holding(&due_partners, WORD_GUARD);
         let (rules, bundle) = (self.rules.row(), self.bundle.row());
         let got = self.cleaner.mark(rules, bundle, marks.row_mut(), partners.row_mut());
-        same("mark", got, self.due.mark(&mut due_marks, &mut due_partners))?;
+        let got = same("mark", got, self.due.mark(&mut due_marks, &mut due_partners))?;
         row_written("marks", &marks, &due_marks)?;
         row_written("partners", &partners, &due_partners)?;
-        self.files_unchanged("mark")
+        self.files_unchanged("mark", got)
     }
 
-    pub fn count(&self) -> Checked {
-        same("count", self.cleaner.count(self.rules.row(), self.bundle.row()), self.due.count())?;
-        self.files_unchanged("count")
+    pub fn count(&self) -> Checked<Counts> {
+        let got = self.cleaner.count(self.rules.row(), self.bundle.row());
+        self.files_unchanged("count", same("count", got, self.due.count())?)
     }
 
-    pub fn ask(&self, fact: u64) -> Checked {
+    pub fn ask(&self, fact: u64) -> Checked<Asked> {
         let got = self.cleaner.ask(self.rules.row(), self.bundle.row(), fact);
-        same(&format!("ask {fact}"), got, self.due.ask(fact))?;
-        self.files_unchanged("ask")
+        self.files_unchanged("ask", same(&format!("ask {fact}"), got, self.due.ask(fact))?)
     }
 
-    /// Says also whether the answer was yes.
-    pub fn question(&self, question: Question) -> Result<bool, String> {
+    pub fn question(&self, question: Question) -> Checked<Answer> {
         let (rules, bundle) = (self.rules.row(), self.bundle.row());
         let got = match question {
             Question::Has { code, thing } => self.cleaner.has(rules, bundle, code, thing),
             Question::Joins { code, from, to } => self.cleaner.joins(rules, bundle, code, from, to),
         };
-        same(&format!("{question:?}"), got, self.due.answer(question))?;
-        self.files_unchanged("question")?;
-        Ok(got.yes == 1)
+        self.files_unchanged("question", same(&format!("{question:?}"), got, self.due.answer(question))?)
     }
 
-    pub fn write_kept(&self, room: usize) -> Checked {
+    pub fn write_kept(&self, room: usize) -> Checked<Length> {
         let mut due_out = worn_bytes(room);
         let mut out = Lent::holding(&due_out, BYTE_GUARD);
         let got = self.cleaner.write_kept(self.rules.row(), self.bundle.row(), out.row_mut());
-        same("write_kept", got, self.due.write_kept(&mut due_out))?;
+        let got = same("write_kept", got, self.due.write_kept(&mut due_out))?;
         row_written("kept bundle", &out, &due_out)?;
-        self.files_unchanged("write_kept")
+        self.files_unchanged("write_kept", got)
     }
 
-    pub fn check_rules(&self) -> Checked {
-        same("check_rules", self.cleaner.check_rules(self.rules.row()), self.due.check_rules())?;
-        self.files_unchanged("check_rules")
+    pub fn check_rules(&self) -> Checked<Length> {
+        let got = self.cleaner.check_rules(self.rules.row());
+        self.files_unchanged("check_rules", same("check_rules", got, self.due.check_rules())?)
     }
 
-    pub fn check_bundle(&self) -> Checked {
+    pub fn check_bundle(&self) -> Checked<Length> {
         let got = self.cleaner.check_bundle(self.rules.row(), self.bundle.row());
-        same("check_bundle", got, self.due.check_bundle())?;
-        self.files_unchanged("check_bundle")
+        self.files_unchanged("check_bundle", same("check_bundle", got, self.due.check_bundle())?)
     }
 
-    /// Every entry point once, with these arguments.
-    pub fn every_operation(&self, arguments: &Arguments) -> Checked {
-        self.check_rules()?;
-        self.check_bundle()?;
-        self.count()?;
-        self.mark(arguments.marks_room, arguments.partners_room)?;
-        self.ask(arguments.fact)?;
-        self.question(arguments.has)?;
-        self.question(arguments.joins)?;
-        self.write_kept(arguments.out_room)
+    /// Every entry point once, with these arguments; gives the refusal of each.
+    pub fn every_operation(&self, arguments: &Arguments) -> Checked<[Refusal; OPERATIONS]> {
+        Ok([
+            self.check_rules()?.refused,
+            self.check_bundle()?.refused,
+            self.count()?.refused,
+            self.mark(arguments.marks_room, arguments.partners_room)?.refused,
+            self.ask(arguments.fact)?.refused,
+            self.question(arguments.has)?.refused,
+            self.question(arguments.joins)?.refused,
+            self.write_kept(arguments.out_room)?.refused,
+        ])
     }
 }

@@ -7,6 +7,7 @@ pub mod check;
 pub mod cleaner;
 pub mod codes;
 pub mod command;
+pub mod damages;
 pub mod dice;
 pub mod due;
 pub mod judge;

@@ -2,9 +2,11 @@
 
 use crate::codes::*;
 use crate::dice::Dice;
+use crate::judge::Question;
 use crate::site::{Fact, Rule, RuleFile};
 
 /// A site, and the codes and things that it was made from, for questions about it.
+#[derive(Clone)]
 pub struct Made {
     pub file: RuleFile,
     pub facts: Vec<Fact>,
@@ -172,8 +174,7 @@ fn make_fact(dice: &mut Dice, palette: &Palette) -> Option<Fact> {
 }
 
 /// A question in range about the site's own names; now and then about a thing that no fact mentions.
-pub fn make_question(dice: &mut Dice, made: &Made) -> Option<crate::judge::Question> {
-    use crate::judge::Question;
+pub fn make_question(dice: &mut Dice, made: &Made) -> Option<Question> {
     let mut thing = || u64::from(if dice.one_in(16) { 5 } else { dice.pick(&made.things) });
     let (from, to) = (thing(), thing());
     if !made.roles.is_empty() && dice.one_in(3) {

@@ -60,12 +60,12 @@ fn every_fact(check: &Check, due: &Due, dice: &mut Dice) -> Result<(), String> {
     check.count()?;
     check.mark(due.facts() + dice.below(3), due.facts() + dice.below(3))?;
     check.write_kept(due.kept_length() + dice.below(3))?;
-    (0..due.facts() as u64).try_for_each(|fact| check.ask(fact))
+    (0..due.facts() as u64).try_for_each(|fact| check.ask(fact).map(|_| ()))
 }
 
 fn every_question(check: &Check, made: &Made, dice: &mut Dice, seen: &mut Seen) -> Result<(), String> {
     for question in (0..QUESTIONS).filter_map(|_| make_question(dice, made)).collect::<Vec<_>>() {
-        if check.question(question)? {
+        if check.question(question)?.yes == 1 {
             seen.yes += 1;
         } else {
             seen.no += 1;
