@@ -32,12 +32,14 @@ pub const BYTES_AFTER: u32 = 7;
 pub const NOT_ABOVE: u32 = 8;
 pub const TOO_SHORT: u32 = 9;
 pub const NO_SUCH_FACT: u32 = 10;
+/// How many refusal numbers there are, 0 for none counted.
 pub const REFUSALS: usize = 11;
 
 /// The sides of a refusal.
 pub const RULES_SIDE: u32 = 0;
 pub const BUNDLE_SIDE: u32 = 1;
 pub const CALL_SIDE: u32 = 2;
+pub const SIDES: usize = 3;
 
 /// The marks, and the partner of a fact that has none.
 pub const KEPT: u8 = 0;

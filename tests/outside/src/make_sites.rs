@@ -62,7 +62,7 @@ impl Palette {
     fn thrown(dice: &mut Dice, file: &RuleFile) -> Palette {
         let roles = some_of(dice, file.roles, 4);
         let functional = roles.iter().copied().filter(|_| dice.one_in(3)).collect();
-        let mut things: Vec<u32> = (0..dice.between(1, 4)).map(|_| dice.pick(&THINGS)).collect();
+        let mut things: Vec<u32> = (0..dice.between(1, 3)).map(|_| dice.pick(&THINGS)).collect();
         things.dedup();
         Palette { concepts: some_of(dice, file.concepts, 4), roles, things, functional }
     }
@@ -118,16 +118,27 @@ fn make_rule(dice: &mut Dice, palette: &Palette) -> Option<Rule> {
     }
     match kind {
         0..=3 => Some(Rule::ConceptIncluded(dice.pick(&basics), dice.pick(&basics))),
-        4..=6 => Some(Rule::ConceptsDisjoint(dice.pick(&basics), rarely_same(dice, &basics))),
-        7 => Some(Rule::RolesDisjoint(dice.pick(&roles), rarely_same(dice, &roles))),
+        4..=6 => {
+            let left = dice.pick(&basics);
+            Some(Rule::ConceptsDisjoint(left, rarely_same(dice, &basics, left)))
+        }
+        7 => {
+            let left = dice.pick(&roles);
+            Some(Rule::RolesDisjoint(left, rarely_same(dice, &roles, left)))
+        }
         8 => palette.free_role(dice).map(|right| Rule::RoleIncluded(dice.pick(&roles), right)),
         _ => Some(dice.pick(&roles)).map(|q| Rule::RolesDisjoint(q, inverse(q))),
     }
 }
 
-fn rarely_same(dice: &mut Dice, codes: &[u32]) -> u32 {
+/// A second code for a disjointness; a code is seldom disjoint from itself, since that empties much.
+fn rarely_same(dice: &mut Dice, codes: &[u32], left: u32) -> u32 {
     let code = dice.pick(codes);
-    if dice.one_in(2) { code } else { dice.pick(codes) }
+    if code == left {
+        dice.pick(codes)
+    } else {
+        code
+    }
 }
 
 /// A concept that demands a partner, whose other end demands the next one, and a disjointness at the end of it.
@@ -154,7 +165,8 @@ fn chain(dice: &mut Dice, palette: &Palette) -> Vec<Rule> {
 
 /// Facts over the palette, ascending, none twice.
 fn make_facts(dice: &mut Dice, palette: &Palette, most: usize) -> Vec<Fact> {
-    let mut facts: Vec<Fact> = (0..dice.below(most + 1)).filter_map(|_| make_fact(dice, palette)).collect();
+    let count = if dice.one_in(2) { most } else { dice.below(most + 1) };
+    let mut facts: Vec<Fact> = (0..count).filter_map(|_| make_fact(dice, palette)).collect();
     facts.sort();
     facts.dedup();
     facts

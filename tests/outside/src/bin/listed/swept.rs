@@ -20,6 +20,10 @@ const SITES: [(&str, &str); 4] = [
 
 pub fn run(cleaner: &dyn Cleaner, files: &mut u64) -> Result<(), String> {
     for (rules, bundle) in SITES {
+        let whole = cleaner.check_bundle(&bytes(rules), &bytes(bundle)).refused;
+        if whole.number != 0 {
+            return Err(format!("refused as {whole:?}: {}", shown("whole", &bytes(rules), &bytes(bundle))));
+        }
         cut(cleaner, &bytes(rules), &bytes(bundle), files)?;
         change(cleaner, &bytes(rules), &bytes(bundle), files)?;
     }
