@@ -1,13 +1,8 @@
 /* The C boundary: the worked site, damaged files and bad arguments through every entry point,
  * on memory that ends, or begins, at a page that cannot be touched. */
-#define _DEFAULT_SOURCE
+#include "lent.h"
+
 #include <stddef.h>
-#include <stdint.h>
-#include <stdio.h>
-#include <stdlib.h>
-#include <string.h>
-#include <sys/mman.h>
-#include <unistd.h>
 
 #include "dzyunagor.h"
 
@@ -21,7 +16,7 @@ _Static_assert(sizeof(dzy_asked) == 24 && offsetof(dzy_asked, partner) == 20, "o
 _Static_assert(sizeof(dzy_answer) == 24 && offsetof(dzy_answer, fact) == 20, "an answer");
 _Static_assert(sizeof(dzy_length) == 24 && offsetof(dzy_length, length) == 16, "a length");
 
-enum { NO_PARTNER = 65535, ROOM = 16, FILL = 0x5A, FILE_MOST = 64 };
+enum { NO_PARTNER = 65535, ROOM = 16, FILE_MOST = 64 };
 
 static const char *const R = "02 01 05 01 00 01 00 01 40 00 41 00 04 00 03 00 01";
 static const char *const F = "06 00 07 01 07 01 09 40 09 07 40 09 AC 02 40 0C 0C";
@@ -41,26 +36,9 @@ static void hold(const char *what, const char *where, int holds) {
   ((answer).refused.number == (n) && (answer).refused.side == (s) && (answer).refused.place == (p))
 #define ACCEPTED(answer) REFUSED(answer, 0, 0, 0)
 
-/* Which edge of the lent memory lies at a page that cannot be touched. */
-typedef enum { AT_END, AT_START } edge;
-
-typedef struct {
-  uint8_t *mapped, *at;
-  size_t inner, page, length;
-} lent;
-
 static lent lend(size_t length, edge where) {
-  lent l;
-  l.page = (size_t)sysconf(_SC_PAGESIZE);
-  l.inner = (length / l.page + 1) * l.page;
-  l.length = length;
-  l.mapped = mmap(NULL, l.inner + 2 * l.page, PROT_NONE, MAP_PRIVATE | MAP_ANONYMOUS, -1, 0);
-  if (l.mapped == MAP_FAILED || mprotect(l.mapped + l.page, l.inner, PROT_READ | PROT_WRITE) != 0) {
-    perror("boundary");
-    exit(2);
-  }
-  memset(l.mapped + l.page, FILL, l.inner);
-  l.at = l.mapped + l.page + (where == AT_END ? l.inner - length : 0);
+  lent l = map_room(length);
+  place(&l, length, where);
   return l;
 }
 
@@ -68,25 +46,9 @@ static lent lend(size_t length, edge where) {
 static lent lend_file(const uint8_t *bytes, size_t length, edge where) {
   lent l = lend(length, where);
   if (length > 0) memcpy(l.at, bytes, length);
-  if (mprotect(l.mapped + l.page, l.inner, PROT_READ) != 0) {
-    perror("boundary");
-    exit(2);
-  }
+  must(mprotect(l.mapped + l.page, l.inner, PROT_READ) == 0);
   return l;
 }
-
-static int all_fill(const uint8_t *from, const uint8_t *to) {
-  size_t length = (size_t)(to - from);
-  return length == 0 || (*from == FILL && memcmp(from, from + 1, length - 1) == 0);
-}
-
-/* Whether all of the page is as it was lent, but for the first bytes of the lent part. */
-static int untouched_past(const lent *l, size_t written) {
-  const uint8_t *start = l->mapped + l->page;
-  return all_fill(start, l->at) && all_fill(l->at + written, start + l->inner);
-}
-
-static void give_back(lent *l) { munmap(l->mapped, l->inner + 2 * l->page); }
 
 /* A file written in hex. */
 typedef struct {
@@ -142,10 +104,10 @@ static void check_marks(const site *s, size_t room, edge where) {
 }
 
 static void check_marks_refused(const site *s, size_t marks_room, size_t partners_room, edge where,
-                                uint32_t number, uint32_t side, uint64_t place, const char *name) {
+                                uint32_t number, uint32_t side, uint64_t at, const char *name) {
   lent marks = lend(marks_room, where), partners = lend(2 * partners_room, where);
   dzy_counts c = dzy_mark(SITE(s), marks.at, marks_room, (uint16_t *)(void *)partners.at, partners_room);
-  hold("mark", name, REFUSED(c, number, side, place));
+  hold("mark", name, REFUSED(c, number, side, at));
   hold("mark, counts of a refusal", name, c.facts == 0 && c.kept == 0 && c.alone == 0 && c.disputed == 0);
   hold("mark, nothing written", name, untouched_past(&marks, 0) && untouched_past(&partners, 0));
   give_back(&marks);
@@ -163,10 +125,10 @@ static void check_kept(const site *s, size_t room, edge where) {
 }
 
 static void check_kept_refused(const site *s, size_t room, edge where, uint32_t number, uint32_t side,
-                               uint64_t place, const char *name) {
+                               uint64_t at, const char *name) {
   lent out = lend(room, where);
   dzy_length l = dzy_write_kept(SITE(s), out.at, room);
-  hold("write_kept", name, REFUSED(l, number, side, place) && l.length == 0);
+  hold("write_kept", name, REFUSED(l, number, side, at) && l.length == 0);
   hold("write_kept, nothing written", name, untouched_past(&out, 0));
   give_back(&out);
 }
@@ -233,8 +195,8 @@ static void short_rooms(edge where) {
   give_back_site(&s);
 }
 
-static int refused_answer(dzy_answer a, uint32_t number, uint32_t side, uint64_t place) {
-  return REFUSED(a, number, side, place) && a.yes == 0 && a.fact == 0;
+static int refused_answer(dzy_answer a, uint32_t number, uint32_t side, uint64_t at) {
+  return REFUSED(a, number, side, at) && a.yes == 0 && a.fact == 0;
 }
 
 static void bad_arguments(edge where) {
@@ -258,24 +220,24 @@ static void bad_arguments(edge where) {
 }
 
 /* Every entry point on files that are refused; the arguments and rooms are bad too, and come later. */
-static void refused_everywhere(file rules, file bundle, uint32_t number, uint32_t side, uint64_t place,
+static void refused_everywhere(file rules, file bundle, uint32_t number, uint32_t side, uint64_t at,
                                const char *name, edge where) {
   site s = lend_site(rules, bundle, where);
   dzy_length l = dzy_check_rules(s.rules.at, s.rules.length);
-  hold("check_rules", name, side == 0 ? REFUSED(l, number, side, place) && l.length == 0 : ACCEPTED(l));
+  hold("check_rules", name, side == 0 ? REFUSED(l, number, side, at) && l.length == 0 : ACCEPTED(l));
   l = dzy_check_bundle(SITE(&s));
-  hold("check_bundle", name, REFUSED(l, number, side, place) && l.length == 0);
+  hold("check_bundle", name, REFUSED(l, number, side, at) && l.length == 0);
   dzy_counts c = dzy_count(SITE(&s));
-  hold("count", name, REFUSED(c, number, side, place));
+  hold("count", name, REFUSED(c, number, side, at));
   hold("count of a refusal", name, c.facts == 0 && c.kept == 0 && c.alone == 0 && c.disputed == 0);
   dzy_asked a = dzy_ask(SITE(&s), UINT64_MAX);
-  hold("ask", name, REFUSED(a, number, side, place) && a.mark == 0 && a.partner == 0);
-  hold("has", name, refused_answer(dzy_has(SITE(&s), 200, UINT64_MAX), number, side, place));
-  hold("joins", name, refused_answer(dzy_joins(SITE(&s), 200, 0, UINT64_MAX), number, side, place));
-  check_marks_refused(&s, 0, 0, where, number, side, place, name);
-  check_marks_refused(&s, ROOM, ROOM, where, number, side, place, name);
-  check_kept_refused(&s, 0, where, number, side, place, name);
-  check_kept_refused(&s, ROOM, where, number, side, place, name);
+  hold("ask", name, REFUSED(a, number, side, at) && a.mark == 0 && a.partner == 0);
+  hold("has", name, refused_answer(dzy_has(SITE(&s), 200, UINT64_MAX), number, side, at));
+  hold("joins", name, refused_answer(dzy_joins(SITE(&s), 200, 0, UINT64_MAX), number, side, at));
+  check_marks_refused(&s, 0, 0, where, number, side, at, name);
+  check_marks_refused(&s, ROOM, ROOM, where, number, side, at, name);
+  check_kept_refused(&s, 0, where, number, side, at, name);
+  check_kept_refused(&s, ROOM, where, number, side, at, name);
   give_back_site(&s);
 }
 
@@ -362,12 +324,12 @@ static void check_changed(file rules, file bundle, edge where) {
 
 /* Every byte of the worked files, which are equally long, changed to every other. */
 static void changed_files(edge where) {
-  for (size_t place = 0; place < read_hex(R).length; place++)
+  for (size_t at = 0; at < read_hex(R).length; at++)
     for (unsigned by = 1; by < 256; by++) {
       file rules = read_hex(R), bundle = read_hex(F);
-      rules.bytes[place] ^= (uint8_t)by;
+      rules.bytes[at] ^= (uint8_t)by;
       check_changed(rules, read_hex(F), where);
-      bundle.bytes[place] ^= (uint8_t)by;
+      bundle.bytes[at] ^= (uint8_t)by;
       check_changed(read_hex(R), bundle, where);
     }
 }

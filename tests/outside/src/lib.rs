@@ -18,6 +18,7 @@ pub mod lent;
 pub mod library;
 pub mod make_sites;
 pub mod plain;
+pub mod relay;
 pub mod site;
 pub mod steps;
 pub mod wrong;
