@@ -5,10 +5,8 @@ set -u
 cd "$(dirname "$0")/.." || exit 2
 cases=${1:?how many cases}
 seed=${2:-3}
-archive=target/staticlib/libdzyunagor.a
-built=target/outside
-[ -f "$archive" ] || rt staticlib dzyunagor || exit 1
-cargo build --quiet --release --offline --features library --manifest-path tests/outside/Cargo.toml --target-dir "$built" || exit 1
-"$built/release/damage" --against library --seed "$seed" --cases "$cases" &&
-  "$built/release/compare" --against library --seed "$seed" --cases "$((cases / 10))" &&
+# shellcheck source=tests/reach.sh
+. tests/reach.sh
+"$run/damage" "${against[@]}" --seed "$seed" --cases "$cases" &&
+  "$run/compare" "${against[@]}" --seed "$seed" --cases "$((cases / 10))" &&
   echo "ok: fuzz of $cases cases, seed $seed"

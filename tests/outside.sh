@@ -1,10 +1,8 @@
 #!/usr/bin/env bash
-# The outside tests with the gate's counts: brute force, damaged files, listed cases, and the C boundary under sanitizers.
+# The outside tests with the gate's counts: brute force, damaged files, listed cases, wrong versions, and the C boundary.
 # Each prints its own counts; a line 'ok: ..' follows each that passes, and the status is not 0 if any does not.
 set -u
 cd "$(dirname "$0")/.." || exit 2
-archive=target/staticlib/libdzyunagor.a
-built=target/outside
 failed=0
 
 try() {
@@ -18,27 +16,14 @@ try() {
   fi
 }
 
-need() {
-  "$@" || {
-    echo "FAILED: $*"
-    exit 1
-  }
-}
+# shellcheck source=tests/reach.sh
+. tests/reach.sh
+need tests/x86.sh build yes "$built/boundary" tests/boundary/boundary.c "$archive"
 
-build_boundary() {
-  mkdir -p "$built" &&
-    gcc -std=c11 -pedantic -Wall -Wextra -Werror -O1 -g -fsanitize=address,undefined -fno-sanitize-recover=all \
-      -Iinclude tests/boundary/boundary.c "$archive" -o "$built/boundary"
-}
-
-[ -f "$archive" ] || need rt staticlib dzyunagor
-need cargo build --quiet --release --offline --features library --manifest-path tests/outside/Cargo.toml --target-dir "$built"
-need build_boundary
-
-try "every wrong version is noticed" "$built/release/bite" --seed 1
-try "random sites agree with brute force over worlds" "$built/release/compare" --against library --seed 1 --cases 20000
-try "the steps agree with brute force over worlds" "$built/release/compare" --against steps --seed 2 --cases 20000
-try "damaged files and bad arguments are refused as document 01 says" "$built/release/damage" --against library --seed 1 --cases 200000
-try "document 01's cases, truncations, changed bytes and limits" "$built/release/listed" --against library
-try "the C boundary under AddressSanitizer and UndefinedBehaviorSanitizer" "$built/boundary"
+try "every wrong version is noticed" "$run/bite" --seed 1
+try "the steps agree with brute force over worlds" "$run/compare" --against steps --seed 2 --cases 20000
+try "random sites agree with brute force over worlds" "$run/compare" "${against[@]}" --seed 1 --cases 20000
+try "damaged files and bad arguments are refused as document 01 says" "$run/damage" "${against[@]}" --seed 1 --cases 200000
+try "document 01's cases, truncations, changed bytes and limits" "$run/listed" "${against[@]}"
+try "the C boundary on guarded memory, under sanitizers" tests/x86.sh run "$built/boundary"
 exit "$failed"

@@ -7,11 +7,7 @@ fn main() {
     if std::env::var_os("CARGO_FEATURE_LIBRARY").is_none() {
         return;
     }
-    let folder = match std::env::var("DZYUNAGOR_ARCHIVES") {
-        Ok(folder) => Path::new(&folder).to_path_buf(),
-        Err(_) => Path::new(env!("CARGO_MANIFEST_DIR")).join("../../target/staticlib"),
-    };
-    println!("cargo:rerun-if-env-changed=DZYUNAGOR_ARCHIVES");
+    let folder = Path::new(env!("CARGO_MANIFEST_DIR")).join("../../target/staticlib");
     println!("cargo:rerun-if-changed={}", folder.join("libdzyunagor.a").display());
     println!("cargo:rustc-link-search=native={}", folder.display());
     println!("cargo:rustc-link-lib=static=dzyunagor");

@@ -61,7 +61,7 @@ fn huge(dice: &mut Dice, small: u64) -> u64 {
         1 => (1 << 32) + small,
         2 => (1 << 63) + small,
         3 => u64::MAX - small,
-        _ => dice.next(),
+        _ => dice.throw(),
     }
 }
 

@@ -11,7 +11,7 @@ use crate::site::bundle_bytes;
 
 /// The most facts of a site, and how many questions are asked of each.
 const FACTS: usize = 8;
-const QUESTIONS: usize = 12;
+const QUESTIONS: usize = 8;
 
 /// What the sites have covered.
 #[derive(Default)]

@@ -9,9 +9,8 @@ use crate::site::{bundle_numbers, write_number, Fact, Rule};
 type Numbers = Vec<Vec<u8>>;
 
 /// Values at which some limit or kind begins or ends.
-const EDGES: [u32; 22] = [
-    0, 1, 2, 3, 4, 5, 31, 32, 33, 63, 64, 65, 95, 96, 127, 128, 512, 513, 4_096, 4_097, 65_535, 65_536,
-];
+const EDGES: [u32; 22] =
+    [0, 1, 2, 3, 4, 5, 31, 32, 33, 63, 64, 65, 95, 96, 127, 128, 512, 513, 4_096, 4_097, 65_535, 65_536];
 
 /// The two files of a site, either or both of them damaged, or sometimes neither.
 pub fn damage_site(dice: &mut Dice, mut made: Made) -> (Vec<u8>, Vec<u8>) {

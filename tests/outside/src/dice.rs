@@ -9,11 +9,11 @@ impl Dice {
     /// The dice of case number `case` under a seed, so that a case can be thrown again by itself.
     pub fn of(seed: u64, case: u64) -> Dice {
         let mut dice = Dice { state: seed };
-        let start = dice.next() ^ case.wrapping_mul(0x9E6C_63D0_876A_3F6B);
+        let start = dice.throw() ^ case.wrapping_mul(0x9E6C_63D0_876A_3F6B);
         Dice { state: start }
     }
 
-    pub fn next(&mut self) -> u64 {
+    pub fn throw(&mut self) -> u64 {
         self.state = self.state.wrapping_add(0x9E37_79B9_7F4A_7C15);
         let mut mixed = self.state;
         mixed = (mixed ^ (mixed >> 30)).wrapping_mul(0xBF58_476D_1CE4_E5B9);
@@ -23,7 +23,7 @@ impl Dice {
 
     /// A number below `bound`, which is not 0.
     pub fn below(&mut self, bound: usize) -> usize {
-        (self.next() % bound as u64) as usize
+        (self.throw() % bound as u64) as usize
     }
 
     /// A number from `least` to `most`, both counted.
@@ -40,6 +40,6 @@ impl Dice {
     }
 
     pub fn byte(&mut self) -> u8 {
-        self.next() as u8
+        self.throw() as u8
     }
 }

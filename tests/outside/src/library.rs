@@ -15,13 +15,7 @@ extern "C" {
         partners_length: usize,
     ) -> Counts;
     fn dzy_count(rules: *const u8, rules_length: usize, bundle: *const u8, bundle_length: usize) -> Counts;
-    fn dzy_ask(
-        rules: *const u8,
-        rules_length: usize,
-        bundle: *const u8,
-        bundle_length: usize,
-        fact: u64,
-    ) -> Asked;
+    fn dzy_ask(rules: *const u8, rules_length: usize, bundle: *const u8, bundle_length: usize, fact: u64) -> Asked;
     fn dzy_has(
         rules: *const u8,
         rules_length: usize,
@@ -48,12 +42,7 @@ extern "C" {
         out_length: usize,
     ) -> Length;
     fn dzy_check_rules(rules: *const u8, rules_length: usize) -> Length;
-    fn dzy_check_bundle(
-        rules: *const u8,
-        rules_length: usize,
-        bundle: *const u8,
-        bundle_length: usize,
-    ) -> Length;
+    fn dzy_check_bundle(rules: *const u8, rules_length: usize, bundle: *const u8, bundle_length: usize) -> Length;
 }
 
 /// The library through its C entry points. Each call lends slices for as long as it lasts: each pointer is
@@ -94,14 +83,7 @@ impl Cleaner for Library {
 
     fn write_kept(&self, rules: &[u8], bundle: &[u8], out: &mut [u8]) -> Length {
         unsafe {
-            dzy_write_kept(
-                rules.as_ptr(),
-                rules.len(),
-                bundle.as_ptr(),
-                bundle.len(),
-                out.as_mut_ptr(),
-                out.len(),
-            )
+            dzy_write_kept(rules.as_ptr(), rules.len(), bundle.as_ptr(), bundle.len(), out.as_mut_ptr(), out.len())
         }
     }
 

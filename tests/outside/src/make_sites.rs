@@ -79,7 +79,8 @@ impl Palette {
 
     /// A basic role that may stand on the right of an inclusion.
     fn free_role(&self, dice: &mut Dice) -> Option<u32> {
-        let free: Vec<u32> = self.basic_roles().into_iter().filter(|&q| !self.functional.contains(&role_of(q))).collect();
+        let free: Vec<u32> =
+            self.basic_roles().into_iter().filter(|&q| !self.functional.contains(&role_of(q))).collect();
         (!free.is_empty()).then(|| dice.pick(&free))
     }
 }

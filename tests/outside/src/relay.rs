@@ -142,7 +142,14 @@ impl Cleaner for Relay {
     }
 
     fn write_kept(&self, rules: &[u8], bundle: &[u8], out: &mut [u8]) -> Length {
-        length(self.call(Request { operation: WRITE_KEPT, rules, bundle, arguments: [0; 3], bytes: out, words: &mut [] }))
+        length(self.call(Request {
+            operation: WRITE_KEPT,
+            rules,
+            bundle,
+            arguments: [0; 3],
+            bytes: out,
+            words: &mut [],
+        }))
     }
 
     fn check_rules(&self, rules: &[u8]) -> Length {

@@ -1,8 +1,6 @@
 //! A site as the tests hold it: rules and facts by their codes, and the tests' own writer of both files.
 
-use crate::codes::{
-    CONCEPTS_DISJOINT, CONCEPT_INCLUDED, FUNCTIONAL, ROLES_DISJOINT, ROLE_INCLUDED, ROLE_PREDICATE,
-};
+use crate::codes::{CONCEPTS_DISJOINT, CONCEPT_INCLUDED, FUNCTIONAL, ROLES_DISJOINT, ROLE_INCLUDED, ROLE_PREDICATE};
 
 /// A rule, with its codes as the file has them.
 #[derive(Clone, Copy, Debug, PartialEq, Eq)]

@@ -224,9 +224,9 @@ impl Judge for Steps {
             one != other && !alone[one] && !alone[other] && tables.clash(facts, &types, one, other)
         };
         let mut judged = Judged::default();
-        for one in 0..facts.len() {
+        for (one, &is_alone) in alone.iter().enumerate() {
             let lowest = (0..facts.len()).find(|&other| clash(one, other));
-            let mark = if alone[one] { ALONE } else { lowest.map_or(KEPT, |_| DISPUTED) };
+            let mark = if is_alone { ALONE } else { lowest.map_or(KEPT, |_| DISPUTED) };
             judged.marks.push(mark);
             judged.partners.push(lowest.map_or(NO_PARTNER, |other| other as u16));
         }

@@ -48,7 +48,9 @@ impl Misjudges {
             Misjudges::AloneDisputes if mark == KEPT => alone_neighbour(facts, right, fact).map(|by| (DISPUTED, by)),
             Misjudges::LoopsKept if facts[fact].is_role() && facts[fact].subject == facts[fact].object => kept,
             Misjudges::UnnamedPartnerDropped if demands(file, facts[fact]) => Some((ALONE, NO_PARTNER)),
-            Misjudges::AnyPartner if mark == DISPUTED => Some((DISPUTED, highest_partner(right, fact).unwrap_or(partner))),
+            Misjudges::AnyPartner if mark == DISPUTED => {
+                Some((DISPUTED, highest_partner(right, fact).unwrap_or(partner)))
+            }
             _ => None,
         }
     }
@@ -62,7 +64,8 @@ fn alone_neighbour(facts: &[Fact], right: &Judged, fact: usize) -> Option<u16> {
 
 /// Whether the fact's concept demands a partner by a rule.
 fn demands(file: &RuleFile, fact: Fact) -> bool {
-    let by = |rule: &Rule| matches!(*rule, Rule::ConceptIncluded(left, right) if left == fact.predicate && right >= SOME);
+    let by =
+        |rule: &Rule| matches!(*rule, Rule::ConceptIncluded(left, right) if left == fact.predicate && right >= SOME);
     !fact.is_role() && file.rules.iter().any(by)
 }
 
@@ -174,7 +177,8 @@ impl Cleaner for Miscalls {
 
     fn write_kept(&self, rules: &[u8], bundle: &[u8], out: &mut [u8]) -> Length {
         let length = RIGHT.write_kept(rules, bundle, &mut out.to_vec());
-        if let (Miscalls::WantsMoreRoom, true) = (self, length.refused.number == 0 && length.length == out.len() as u64) {
+        if let (Miscalls::WantsMoreRoom, true) = (self, length.refused.number == 0 && length.length == out.len() as u64)
+        {
             return Length { refused: short(), length: 0 };
         }
         if let Miscalls::FillsTheOutput = self {

@@ -26,9 +26,10 @@ impl Judge for Worlds {
     /// every yes is document 01's wording, and is held against all kept facts together here.
     fn answer(&self, file: &RuleFile, facts: &[Fact], judged: &Judged, question: Question) -> Option<u32> {
         let in_every_world = World::of(&file.rules, &judged.kept(facts)).tells(question);
-        let by_one = facts.iter().enumerate().find(|&(number, &fact)| {
-            judged.is_kept(number) && World::of(&file.rules, &[fact]).tells(question)
-        });
+        let by_one = facts
+            .iter()
+            .enumerate()
+            .find(|&(number, &fact)| judged.is_kept(number) && World::of(&file.rules, &[fact]).tells(question));
         assert_eq!(in_every_world, by_one.is_some(), "all kept facts and single ones: {question:?}");
         by_one.map(|(number, _)| number as u32)
     }
