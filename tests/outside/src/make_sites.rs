@@ -60,7 +60,7 @@ fn some_of(dice: &mut Dice, bound: u32, most: usize) -> Vec<u32> {
 
 impl Palette {
     fn thrown(dice: &mut Dice, file: &RuleFile) -> Palette {
-        let roles = some_of(dice, file.roles, 4);
+        let roles = some_of(dice, file.roles, 6);
         let functional = roles.iter().copied().filter(|_| dice.one_in(3)).collect();
         let mut things: Vec<u32> = (0..dice.between(1, 3)).map(|_| dice.pick(&THINGS)).collect();
         things.dedup();
@@ -90,7 +90,7 @@ fn make_rules(dice: &mut Dice, palette: &Palette) -> Vec<Rule> {
     for _ in 0..dice.below(6) {
         rules.extend(make_rule(dice, palette));
     }
-    if dice.one_in(3) {
+    if dice.one_in(2) {
         rules.extend(chain(dice, palette));
     }
     if dice.one_in(12) && !rules.is_empty() {
@@ -142,26 +142,37 @@ fn rarely_same(dice: &mut Dice, codes: &[u32], left: u32) -> u32 {
     }
 }
 
-/// A concept that demands a partner, whose other end demands the next one, and a disjointness at the end of it.
+/// A concept that demands a partner, whose other end demands the next one, and so on; often what stands at the end cannot be.
 fn chain(dice: &mut Dice, palette: &Palette) -> Vec<Rule> {
-    let (basics, roles) = (palette.basics(), palette.basic_roles());
-    if roles.is_empty() {
+    let basics = palette.basics();
+    if palette.roles.is_empty() {
         return Vec::new();
     }
     let mut rules = Vec::new();
     let mut at = dice.pick(&basics);
-    for _ in 0..dice.between(1, 3) {
-        let q = dice.pick(&roles);
+    for q in chain_roles(dice, palette) {
         rules.push(Rule::ConceptIncluded(at, SOME + q));
         at = SOME + inverse(q);
     }
-    if dice.one_in(2) {
-        rules.push(Rule::ConceptIncluded(at, dice.pick(&basics)));
-    }
-    if dice.one_in(3) {
-        rules.push(Rule::ConceptsDisjoint(at, dice.pick(&basics)));
+    let other = dice.pick(&basics);
+    match dice.below(5) {
+        0 => rules.push(Rule::ConceptIncluded(at, other)),
+        1 => rules.push(Rule::ConceptsDisjoint(at, other)),
+        2 => rules.push(Rule::ConceptsDisjoint(at, at)),
+        3 => rules.extend([Rule::ConceptIncluded(at, other), Rule::ConceptsDisjoint(other, at)]),
+        _ => {}
     }
     rules
+}
+
+/// The roles along a chain: any, or each of the palette's roles once, so that only the whole chain leads to its end.
+fn chain_roles(dice: &mut Dice, palette: &Palette) -> Vec<u32> {
+    if dice.one_in(2) {
+        return (0..dice.between(1, 4)).map(|_| dice.pick(&palette.basic_roles())).collect();
+    }
+    let mut roles: Vec<u32> = palette.roles.iter().map(|role| 2 * role + dice.below(2) as u32).collect();
+    shuffle(dice, &mut roles);
+    roles
 }
 
 /// Facts over the palette, ascending, none twice.

@@ -8,6 +8,47 @@ use std::fmt::Debug;
 pub const R: &str = "02 01 05 01 00 01 00 01 40 00 41 00 04 00 03 00 01";
 pub const F: &str = "06 00 07 01 07 01 09 40 09 07 40 09 AC 02 40 0C 0C";
 
+/// A bundle that is refused with 8 at 3.
+const NOT_ASCENDING: &str = "02 00 07 00 07";
+
+/// Rule files, each with its refusal's number and place.
+const REFUSED_RULES: [(&str, u32, u64); 15] = [
+    ("", 1, 0),
+    ("00 01 02 04 00 02 01 01", 6, 3),
+    ("00 01 02 02 01 01 04 00", 6, 6),
+    ("00 01 02 04 00 02 01 01 00", 7, 8),
+    ("00 01 03 04 00 02 00 00 04 01", 6, 3),
+    ("41 00 00", 4, 0),
+    ("00 21 00", 4, 1),
+    ("00 00 81 04", 4, 2),
+    ("00 00 01 05", 5, 3),
+    ("00 00 01 80 80 04", 3, 3),
+    ("01 01 01 00 00 42", 5, 5),
+    ("01 01 01 00 01 40", 5, 4),
+    ("01 01 01 02 00 02", 5, 5),
+    ("01 01 01 04 02", 5, 4),
+    ("40 20 01 00 3F 80 01", 5, 5),
+];
+
+/// Bundles under R, each with its refusal's number and place.
+const REFUSED_BUNDLES: [(&str, u32, u64); 15] = [
+    ("", 1, 0),
+    ("80 20", 1, 2),
+    ("81 20", 4, 0),
+    ("02 00 07 00 07", 8, 3),
+    ("02 00 07 00 06", 8, 3),
+    ("02 01 07 00 08", 8, 3),
+    ("02 40 07 08 40 07 80", 1, 6),
+    ("02 40 07 08 40 06 80 00", 2, 6),
+    ("02 40 07 08 40 07 07", 8, 4),
+    ("02 01 07 02 07", 5, 3),
+    ("01 41 07 08", 5, 1),
+    ("01 80 01 07", 5, 1),
+    ("01 01 07 00", 7, 3),
+    ("00 00", 7, 1),
+    ("01 01 80 80 80", 3, 2),
+];
+
 /// Written hex as bytes.
 pub fn bytes(hex: &str) -> Vec<u8> {
     hex.split_whitespace().map(|pair| u8::from_str_radix(pair, 16).expect("two hex digits")).collect()
@@ -147,48 +188,14 @@ impl Held<'_> {
         self.marks(R, "01 01 09", single, &[0], &[none])
     }
 
-    /// Refusals of the files; where the rules are good, those of the bundle.
+    /// Refusals of the rules, which come before a bad bundle's; then those of bundles.
     fn refusals(&mut self) -> Told {
-        let of_rules = [
-            ("", 1, 0),
-            ("00 01 02 04 00 02 01 01", 6, 3),
-            ("00 01 02 02 01 01 04 00", 6, 6),
-            ("00 01 02 04 00 02 01 01 00", 7, 8),
-            ("00 01 03 04 00 02 00 00 04 01", 6, 3),
-            ("41 00 00", 4, 0),
-            ("00 21 00", 4, 1),
-            ("00 00 81 04", 4, 2),
-            ("00 00 01 05", 5, 3),
-            ("00 00 01 80 80 04", 3, 3),
-            ("01 01 01 00 00 42", 5, 5),
-            ("01 01 01 00 01 40", 5, 4),
-            ("01 01 01 02 00 02", 5, 5),
-            ("01 01 01 04 02", 5, 4),
-            ("40 20 01 00 3F 80 01", 5, 5),
-        ];
-        for (hex, number, place) in of_rules {
+        for (hex, number, place) in REFUSED_RULES {
             let due = refused_length(number, RULES_SIDE, place);
             self.hold(hex, self.cleaner.check_rules(&bytes(hex)), due)?;
             self.hold(hex, self.cleaner.check_bundle(&bytes(hex), &bytes("81 20")), due)?;
         }
-        let of_bundle = [
-            ("", 1, 0),
-            ("80 20", 1, 2),
-            ("81 20", 4, 0),
-            ("02 00 07 00 07", 8, 3),
-            ("02 00 07 00 06", 8, 3),
-            ("02 01 07 00 08", 8, 3),
-            ("02 40 07 08 40 07 80", 1, 6),
-            ("02 40 07 08 40 06 80 00", 2, 6),
-            ("02 40 07 08 40 07 07", 8, 4),
-            ("02 01 07 02 07", 5, 3),
-            ("01 41 07 08", 5, 1),
-            ("01 80 01 07", 5, 1),
-            ("01 01 07 00", 7, 3),
-            ("00 00", 7, 1),
-            ("01 01 80 80 80", 3, 2),
-        ];
-        for (hex, number, place) in of_bundle {
+        for (hex, number, place) in REFUSED_BUNDLES {
             let got = self.cleaner.check_bundle(&bytes(R), &bytes(hex));
             self.hold(hex, got, refused_length(number, BUNDLE_SIDE, place))?;
         }
@@ -198,26 +205,40 @@ impl Held<'_> {
     /// Arguments after both files, the code before the things, room last.
     fn order_of_arguments(&mut self) -> Told {
         let (rules, bundle) = (bytes(R), bytes(F));
-        let bad = bytes("02 00 07 00 07");
+        self.fact_numbers(&rules, &bundle)?;
+        self.question_codes(&rules, &bundle)?;
+        self.question_things(&rules, &bundle)?;
+        self.rooms(&rules, &bundle)
+    }
+
+    fn fact_numbers(&mut self, rules: &[u8], bundle: &[u8]) -> Told {
         let none = Asked { refused: refused(10, CALL_SIDE, 0), ..Asked::default() };
         let broken = Asked { refused: refused(8, BUNDLE_SIDE, 3), ..Asked::default() };
         for fact in [6, 7, 65_536, 1 << 32, u64::MAX] {
-            self.hold("fact number", self.cleaner.ask(&rules, &bundle, fact), none)?;
-            self.hold("fact number after the bundle", self.cleaner.ask(&rules, &bad, fact), broken)?;
+            self.hold("fact number", self.cleaner.ask(rules, bundle, fact), none)?;
+            self.hold("fact number after the bundle", self.cleaner.ask(rules, &bytes(NOT_ASCENDING), fact), broken)?;
         }
+        Ok(())
+    }
+
+    fn question_codes(&mut self, rules: &[u8], bundle: &[u8]) -> Told {
+        let (undeclared, broken) = (refused_answer(5, CALL_SIDE, 0), refused_answer(8, BUNDLE_SIDE, 3));
         for code in [2, 63, 66, 128, 65_536, 1 << 32, u64::MAX] {
-            let due = refused_answer(5, CALL_SIDE, 0);
-            self.hold("code", self.cleaner.has(&rules, &bundle, code, u64::MAX), due)?;
-            self.hold("code", self.cleaner.joins(&rules, &bundle, code, u64::MAX, 0), due)?;
-            self.hold("code", self.cleaner.has(&rules, &bad, code, 0), refused_answer(8, BUNDLE_SIDE, 3))?;
+            self.hold("code", self.cleaner.has(rules, bundle, code, u64::MAX), undeclared)?;
+            self.hold("code", self.cleaner.joins(rules, bundle, code, u64::MAX, 0), undeclared)?;
+            self.hold("code after the bundle", self.cleaner.has(rules, &bytes(NOT_ASCENDING), code, 0), broken)?;
         }
+        Ok(())
+    }
+
+    fn question_things(&mut self, rules: &[u8], bundle: &[u8]) -> Told {
+        let too_large = refused_answer(3, CALL_SIDE, 0);
         for thing in [65_536, 1 << 32, u64::MAX] {
-            let due = refused_answer(3, CALL_SIDE, 0);
-            self.hold("thing", self.cleaner.has(&rules, &bundle, 64, thing), due)?;
-            self.hold("from", self.cleaner.joins(&rules, &bundle, 1, thing, 0), due)?;
-            self.hold("to", self.cleaner.joins(&rules, &bundle, 1, 0, thing), due)?;
+            self.hold("thing", self.cleaner.has(rules, bundle, 64, thing), too_large)?;
+            self.hold("from", self.cleaner.joins(rules, bundle, 1, thing, 0), too_large)?;
+            self.hold("to", self.cleaner.joins(rules, bundle, 1, 0, thing), too_large)?;
         }
-        self.rooms(&rules, &bundle)
+        Ok(())
     }
 
     fn rooms(&mut self, rules: &[u8], bundle: &[u8]) -> Told {
