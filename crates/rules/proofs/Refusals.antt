@@ -1,17 +1,18 @@
--- Where a rule file's refusal stands: on side 0, at a place within the bytes or at their end. Said of every answer on the way,
--- refusals 6 and 7 after the last rule among them, and put together as the reading is.
-use Prim.Native.Nat.{ℕ, zero, suc, _≤_}
-use mathlib.Core.Path.{_≡_, refl, sym, ap}
+-- Where a rule file's refusal stands: on side 0, at one of the bytes, or for refusal 1 at their end. Said of every answer on the way,
+-- refusals 7 and 6 after the last rule among them, and put together as the reading is.
+use Prim.Native.Nat.{ℕ, zero, suc, _≤_, _<_}
+use mathlib.Core.Path.{_≡_, refl, sym, ap, _∙_}
 use mathlib.Core.Bool.{Bool, true, false, cond}
 use mathlib.Core.List.{List}
-use lib.ListN.{length}
+use lib.ListN.{length, drop, drop-of-length-le}
 use lib.Dec.{ltb, leb, eqb}
 use native.Mathlib.Omega.{arith}
+use borrow.Author.Tests.{ltb-true, ltb-false}
 use Rattle.number.specs.Answer.{Answer, Read, refusal, _then_}
 use Rattle.number.specs.Answer.Answer.{gives, refuses}
-use Rattle.number.specs.Number.{numberAt}
+use Rattle.number.specs.Number.{formOf, numberAt}
 use Rattle.number.specs.declared.refusal.Refusal.{Refusal}
-use Rattle.number.proofs.Answers.{never}
+use Rattle.number.proofs.Answers.{never, went}
 use Rattle.number.proofs.Laws.{bounds, refused-how}
 use Rattle.site.specs.Kinds.{Rule}
 use Rattle.site.specs.Items.{countAt, codeAt, endAt}
@@ -24,6 +25,9 @@ use Rattle.rules.proofs.There.{count-there, code-there, Given, given-gi
 pub record InRules (s : List ℕ) (r : Refusal) : Type 0 where
   pub side : r .side ≡ 0
   pub place : r .place ≤ length s
+  pub low : 1 ≤ r .number
+  pub high : r .number ≤ 7
+  pub at-byte : (r .number ≡ 1 → ⊥) → r .place < length s
 
 module _ {A : Type 0} (s : List ℕ) where
   -- an answer whose refusal, if it is one, is of the rule file
@@ -36,9 +40,9 @@ module _ {A : Type 0} (s : List ℕ) where
   placed-gives : (a : A) → Placed (gives a)
   placed-gives a r e = absurd (never (sym e))
 
-  placed-refusal : (number place : ℕ) → place ≤ length s → Placed (refuses (refusal number 0 place))
-  placed-refusal number place h r e =
-      let here : InRules s (refusal number 0 place) = record { side = refl; place = h } in
+  placed-refusal : (number place : ℕ) → 1 ≤ number → number ≤ 7 → place < length s → Placed (refuses (refusal number 0 place))
+  placed-refusal number place low high h r e =
+      let here : InRules s (refusal number 0 place) = record { side = refl; place = omega arith; low = low; high = high; at-byte = λ k. h } in
       rw (same-refused e) at here
 
   placed-test : (t : Bool) (x y : Answer A) → Placed x → Placed y → Placed (cond t x y)
@@ -50,20 +54,38 @@ placed-then s (gives x) k first rest = rest x refl
 placed-then s (refuses q) k first rest = λ r e. first r (ap refuses (same-refused s e))
 
 module _ (s : List ℕ) where
+  -- a number that is due past the bytes is refusal 1
+  none-left : (at most : ℕ) → length s ≤ at → numberAt s at most 0 ≡ refuses (refusal 1 0 at)
+  unfolding numberAt formOf
+  none-left at most h = rw (drop-of-length-le s h)
+
   number-placed : (at most : ℕ) → at ≤ length s → Placed s (numberAt s at most 0)
   number-placed at most h r e =
       let how = refused-how at most 0 r s e in
-      record { side = how .side-given; place = omega (arith, how .first-byte) }
+      record {
+        side = how .side-given;
+        place = omega (arith, how .first-byte);
+        low = how .low;
+        high = omega (arith, how .high);
+        at-byte = λ other. by other (ltb at (length s)) refl;
+      }
+    where
+      by : (r .number ≡ 1 → ⊥) → (t : Bool) → ltb at (length s) ≡ t → r .place < length s
+      by other true inside = omega (arith, ltb-true at (length s) inside, refused-how at most 0 r s e .first-byte)
+      by other false past = absurd (other (ap (λ (q : Refusal). q .number) (same-refused s (sym e ∙ none-left at most (ltb-false at (length s) past)))))
 
   after-number : (at : ℕ) (n : Read ℕ) → numberAt s at mostNumber 0 ≡ gives n → n .next ≤ length s
   after-number at n e = bounds s at mostNumber 0 (n .value) (n .next) e .inside
+
+  number-starts : (at : ℕ) (n : Read ℕ) → numberAt s at mostNumber 0 ≡ gives n → at < length s
+  number-starts at n e = omega (arith, bounds s at mostNumber 0 (n .value) (n .next) e .past, after-number at n e)
 
   -- counts
   count-placed : (at limit : ℕ) → at ≤ length s → Placed s (countAt s at limit 0)
   unfolding countAt
   count-placed at limit h =
       placed-then s (numberAt s at mostNumber 0) (λ n. cond (leb (n .value) limit) (gives n) (refuses (refusal 4 0 at))) (number-placed at mostNumber h)
-      (λ n e. placed-test s (leb (n .value) limit) (gives n) (refuses (refusal 4 0 at)) (placed-gives s n) (placed-refusal s 4 at h))
+      (λ n e. placed-test s (leb (n .value) limit) (gives n) (refuses (refusal 4 0 at)) (placed-gives s n) (placed-refusal s 4 at (omega arith) (omega arith) (number-starts at n e)))
 
   after-count : (at limit : ℕ) (n : Read ℕ) → countAt s at limit 0 ≡ gives n → n .next ≤ length s
   after-count at limit n e = after-number at n (count-there s at limit 0 n e .number)
@@ -73,7 +95,7 @@ module _ (s : List ℕ) where
   unfolding codeAt
   code-placed known at h =
       placed-then s (numberAt s at mostNumber 0) (λ n. cond (known (n .value)) (gives n) (refuses (refusal 5 0 at))) (number-placed at mostNumber h)
-      (λ n e. placed-test s (known (n .value)) (gives n) (refuses (refusal 5 0 at)) (placed-gives s n) (placed-refusal s 5 at h))
+      (λ n e. placed-test s (known (n .value)) (gives n) (refuses (refusal 5 0 at)) (placed-gives s n) (placed-refusal s 5 at (omega arith) (omega arith) (number-starts at n e)))
 
   after-code : (known : ℕ → Bool) (at : ℕ) (n : Read ℕ) → codeAt s at known 0 ≡ gives n → n .next ≤ length s
   after-code known at n e = after-number at n (code-there s at known 0 n e .number)
@@ -125,18 +147,18 @@ module _ (s : List ℕ) where
         (given-then _ (codeAt s (x .next) (codeDeclared h (kind .value)) 0) _
         (λ y g. given-gives _ _ (after-code (codeDeclared h (kind .value)) (x .next) y g)))))
 
+    rule-starts : (at : ℕ) (r : Read Rule) → ruleAt h s at ≡ gives r → at < length s
+    unfolding ruleAt
+    rule-starts at r e =
+        let w = went (codeAt s at (λ kind. leb kind lastKind) 0) _ e in
+        number-starts at (w .value) (code-there s at (λ kind. leb kind lastKind) 0 (w .value) (w .first) .number)
+
     -- the rules
     pub rules-placed : (n at : ℕ) → at ≤ length s → Placed s (rulesFrom h s n at)
     unfolding rulesFrom
     rules-placed zero at inside = placed-gives s at
     rules-placed (suc n) at inside =
         placed-then s (ruleAt h s at) (λ r. rulesFrom h s n (r .next)) (rule-placed at inside) (λ r e. rules-placed n (r .next) (rule-inside at r e))
-
-    pub rules-inside : (n at : ℕ) → at ≤ length s → Given (λ end. end ≤ length s) (rulesFrom h s n at)
-    unfolding rulesFrom
-    rules-inside zero at inside = given-gives (λ end. end ≤ length s) at inside
-    rules-inside (suc n) at inside =
-        given-then (λ end. end ≤ length s) (ruleAt h s at) (λ r. rulesFrom h s n (r .next)) (λ r e. rules-inside n (r .next) (rule-inside at r e))
 
     -- refusal 6
     pub unbroken-placed : (rules : List Rule) (n at : ℕ) → at ≤ length s → Placed s (unbroken h s rules n at)
@@ -145,17 +167,21 @@ module _ (s : List ℕ) where
     unbroken-placed rules (suc n) at inside =
         placed-then s (ruleAt h s at) (λ r. cond (broken rules (r .value)) (refuses (refusal 6 0 at)) (unbroken h s rules n (r .next))) (rule-placed at inside)
         (λ r e.
-        placed-test s (broken rules (r .value)) _ _ (placed-refusal s 6 at inside) (unbroken-placed rules n (r .next) (rule-inside at r e)))
+        placed-test s (broken rules (r .value)) _ _ (placed-refusal s 6 at (omega arith) (omega arith) (rule-starts at r e)) (unbroken-placed rules n (r .next) (rule-inside at r e)))
 
   -- refusal 7
-  pub end-placed : (at : ℕ) → at ≤ length s → Placed s (endAt s at 0)
+  pub end-placed : (at : ℕ) → Placed s (endAt s at 0)
   unfolding endAt
-  end-placed at h = placed-test s (ltb at (length s)) (refuses (refusal 7 0 at)) (gives at) (placed-refusal s 7 at h) (placed-gives s at)
+  end-placed at = by-test (ltb at (length s)) refl
+    where
+      by-test : (t : Bool) → ltb at (length s) ≡ t → Placed s (cond t (refuses (refusal 7 0 at)) (gives at))
+      by-test true is = placed-refusal s 7 at (omega arith) (omega arith) (ltb-true at (length s) is)
+      by-test false is = placed-gives s at
 
-  pub after-placed : (h : Head) (end : ℕ) → h .start ≤ length s → end ≤ length s → Placed s (afterRules s h end)
+  pub after-placed : (h : Head) (end : ℕ) → h .start ≤ length s → Placed s (afterRules s h end)
   unfolding afterRules
-  after-placed h end start inside =
-      placed-then s (endAt s end 0) _ (end-placed end inside)
+  after-placed h end start =
+      placed-then s (endAt s end 0) _ (end-placed end)
       (λ at e.
       placed-then s (unbroken h s (rulesIn h s (h .rules) (h .start)) (h .rules) (h .start)) _
       (unbroken-placed h (rulesIn h s (h .rules) (h .start)) (h .rules) (h .start) start)
@@ -168,4 +194,4 @@ module _ (s : List ℕ) where
       placed-then s (headOf s) _ head-placed
       (λ h e.
       placed-then s (rulesFrom h s (h .rules) (h .start)) _ (rules-placed h (h .rules) (h .start) (head-inside h e))
-      (λ end f. after-placed h end (head-inside h e) (rules-inside h (h .rules) (h .start) (head-inside h e) end f)))
+      (λ end f. after-placed h end (head-inside h e)))
