@@ -2,13 +2,13 @@
 -- Both are made of rules `00 00 00`, by which concept 0 is included in itself; a walk over these goes three bytes on each.
 use Prim.Native.Nat.{ℕ, zero, suc, _+_, _*_}
 use mathlib.Core.Path.{_≡_, refl, sym, ap, _∙_}
-use mathlib.Core.Bool.{Bool, true, false, cond}
+use mathlib.Core.Bool.{Bool, true}
 use mathlib.Core.List.{List, [], _∷_}
 use lib.ListN.{length, take, drop}
 use lib.Seq.{drop-drop}
 use lib.Dec.{leb}
 use native.Mathlib.Omega.{arith}
-use Rattle.number.specs.Answer.{Answer, Read, refusal, _then_}
+use Rattle.number.specs.Answer.{refusal}
 use Rattle.number.specs.Answer.Answer.{gives, refuses}
 use Rattle.number.specs.Number.{third, second, formOf, numberAt}
 use Rattle.number.specs.Number.Form.{fault}

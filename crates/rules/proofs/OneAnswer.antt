@@ -1,6 +1,6 @@
 -- Each answer of the code says one thing only: what an answer is told to be determines it, so that every contract leaves one answer.
 -- A rule is told with its codes as basic concepts and basic roles; these have one code each.
-use Prim.Native.Nat.{ℕ, zero, suc, _+_, _-_, _*_, _/_, _%_, _≤_}
+use Prim.Native.Nat.{ℕ, _-_, _/_, _%_}
 use mathlib.Core.Path.{_≡_, refl, sym, ap, ap₂, _∙_}
 use mathlib.Core.Bool.{Bool, true, false, cond}
 use mathlib.Core.List.{List}

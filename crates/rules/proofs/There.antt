@@ -8,7 +8,7 @@ use borrow.Author.Tests.{leb-true}
 use Rattle.number.specs.Answer.{Answer, Read, refusal, _then_}
 use Rattle.number.specs.Answer.Answer.{gives, refuses}
 use Rattle.number.specs.Number.{numberAt}
-use Rattle.number.proofs.Answers.{never, given-once, Went, went, Passed, passed}
+use Rattle.number.proofs.Answers.{never, given-once, went, passed}
 use Rattle.site.specs.Items.{countAt, codeAt}
 use Rattle.site.specs.Limits.{mostNumber}
 
