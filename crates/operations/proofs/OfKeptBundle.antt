@@ -24,8 +24,8 @@ use Rattle.rules.specs.declared.head.Head.{Head}
 use Rattle.rules.specs.RuleFile.{siteOf}
 use Rattle.bundle.specs.Bundle.{factsOf, factBytes, bundleOf}
 use Rattle.bundle.specs.Records.{roomFor}
-use Rattle.bundle.specs.declared.again.BundleWrote.{BundleWrote}
-use Rattle.bundle.specs.declared.again.BundleWrote.the-variants.{Written, Refused as NotWritten}
+use Rattle.bundle.specs.declared.writing.BundleWrote.{BundleWrote}
+use Rattle.bundle.specs.declared.writing.BundleWrote.the-variants.{Written, Refused as NotWritten}
 use Rattle.bundle.specs.declared.facts.Facts.{Facts}
 use Rattle.bundle.proofs.Storing.{sets-append}
 use Rattle.follows.specs.Tables.{Follows, followsOf}

@@ -57,8 +57,8 @@ use Rattle.operations.specs.declared.mark.Asked.{Asked}
 use Rattle.operations.specs.declared.mark.Asked.the-variants.{Judged as JudgedSo, Refused as NotJudged}
 use Rattle.operations.specs.declared.question.Replied.{Replied}
 use Rattle.operations.specs.declared.question.Replied.the-variants.{Yes, No, Refused as NotReplied}
-use Rattle.bundle.specs.declared.again.BundleWrote.{BundleWrote}
-use Rattle.bundle.specs.declared.again.BundleWrote.the-variants.{Written, Refused as NotWritten}
+use Rattle.bundle.specs.declared.writing.BundleWrote.{BundleWrote}
+use Rattle.bundle.specs.declared.writing.BundleWrote.the-variants.{Written, Refused as NotWritten}
 use Rattle.clean.proofs.OfAgreement.{Agree, AllSpoken, mark-same, partner-same, marks-same, partners-same, counts-same}
 
 -- reading both

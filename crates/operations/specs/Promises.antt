@@ -10,8 +10,8 @@ use Rattle.number.specs.declared.refusal.Refusal.{Refusal}
 use Rattle.rules.specs.declared.head.Head.{Head}
 use Rattle.rules.specs.RuleFile.{checkRules, siteOf}
 use Rattle.bundle.specs.Bundle.{checkBundle, factsOf}
-use Rattle.bundle.specs.Again.{wroteTold}
-use Rattle.bundle.specs.declared.again.BundleWrote.{BundleWrote}
+use Rattle.bundle.specs.Pushed.{wroteTold}
+use Rattle.bundle.specs.declared.writing.BundleWrote.{BundleWrote}
 use Rattle.bundle.specs.declared.facts.Facts.{Facts}
 use Rattle.number.specs.Number.{bytesOf, threeBytes}
 use Rattle.site.specs.Limits.{mostFacts}
