@@ -1,8 +1,8 @@
 -- A line is its runs of bytes one after the other, from the start: one law for each way out of the line functions.
-use Prim.Native.Nat.{ℕ, _+_, _≤_, _<_}
+use Prim.Native.Nat.{ℕ, _+_, _-_, _≤_, _<_}
 use mathlib.Core.Path.{_≡_, refl, sym, ap, _∙_}
 use mathlib.Core.List.{List, [], _∷_, _++_}
-use lib.ListN.{length, take, drop}
+use lib.ListN.{length, take, drop, getD}
 use lib.Seq.{sets, sets-eq, take-append-seam}
 use lib.Dec.{eqb}
 use native.Mathlib.Nat.{zero-add}
@@ -14,6 +14,10 @@ use Rattle.clean.specs.declared.answers.Counts.{Counts}
 use Rattle.listing.specs.Decimal.{decimalOf}
 use Rattle.listing.specs.Put.{Laid, LaidNumber, LaidNamed, named}
 use Rattle.listing.specs.Lines.{factsWord, keptCount, aloneCount, disputedWord, keptWord, aloneWord, refusedWord, rulesWord, bundleWord, newline, countsLine, markOf, factLine, placeOf, refusalLine, LaidMark, LaidPlace, Line}
+use Rattle.operations.specs.Promises.{countedTold}
+use Rattle.operations.specs.declared.mark.Counted.{Counted}
+use Rattle.operations.specs.declared.mark.Counted.the-variants.{Counts as CountsAre, Refused as NotCounted}
+use Rattle.listing.specs.Listing.{linesOf, lineAt}
 use Rattle.listing.proofs.OfPutting.{laid-both, named-room, named-laid}
 
 -- a run from the start that fits is a line
@@ -96,4 +100,26 @@ module _ (refusal : Refusal) {o₀ o₁ o₂ o₃ : List ℕ} {a b r : ℕ} wher
       n)
       h
 
-pub ruleset lines = (mark-kept, mark-alone, mark-disputed, place-rules, place-bundle, needs)
+-- which line is which
+module _ (counted : Counted) (counts : Counts) (is : counted ≡ CountsAre counts) where
+  pub lines-of-counts : counts .facts + 1 ≡ linesOf (countedTold counted)
+  lines-of-counts = rw is
+
+  module _ (marks partners out : List ℕ) (k r : ℕ) (out′ : List ℕ) where
+    pub line-of-counts : k ≡ 0 → Line out (countsLine counts) r out′ → Line out (lineAt (countedTold counted) marks partners k) r out′
+    unfolding lineAt
+    line-of-counts e l = rw (is, eq-eqb k 0 e) l
+
+    pub line-of-fact : (k ≡ 0 → ⊥) → Line out (factLine (k - 1) (getD marks (k - 1) 0) (getD partners (k - 1) 0)) r out′ → Line out (lineAt (countedTold counted) marks partners k) r out′
+    unfolding lineAt
+    line-of-fact f l = rw (is, ne-eqb k 0 f) l
+
+module _ (counted : Counted) (refusal : Refusal) (is : counted ≡ NotCounted refusal) where
+  pub lines-of-refusal : 1 ≡ linesOf (countedTold counted)
+  lines-of-refusal = rw is
+
+  pub line-of-refusal : (marks partners out : List ℕ) (k r : ℕ) (out′ : List ℕ) → Line out (refusalLine refusal) r out′ → Line out (lineAt (countedTold counted) marks partners k) r out′
+  unfolding lineAt
+  line-of-refusal marks partners out k r out′ l = rw is l
+
+pub ruleset lines = (mark-kept, mark-alone, mark-disputed, place-rules, place-bundle, lines-of-counts, lines-of-refusal, line-of-counts, line-of-fact, line-of-refusal, needs)

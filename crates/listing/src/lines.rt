@@ -33,7 +33,7 @@ fn put_mark(out: &mut [u8], at: usize, mark: u8, partner: u16) -> usize
 }
 
 // "each other line has the fact's number, its mark, and for a disputed fact its partner"
-pub fn fact_line(out: &mut [u8; 128], number: u32, mark: u8, partner: u16) -> usize
+pub fn fact_line(out: &mut [u8; 128], number: usize, mark: u8, partner: u16) -> usize
     ensures { λ r. ⌜ Line (now (out .entry)) (factLine number mark partner) r (now (out .exit)) ⌝ }
 {
     let a = put_decimal(out, 0, number as u64);
