@@ -1,3 +1,9 @@
 pub mod Accepted
+pub mod Longest
+pub mod Pushing
 pub mod Reading
+pub mod Refusals
+pub mod Rewriting
+pub mod RoundTrips
 pub mod Runs
+pub mod Storing

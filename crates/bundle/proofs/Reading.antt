@@ -24,7 +24,8 @@ use Rattle.site.specs.Told.{endTold, endRefusal}
 use Rattle.rules.specs.declared.head.Head.{Head}
 use Rattle.bundle.specs.Bundle.{Last, factAt, ascends, factsFrom, predicateKnown, checkBundle}
 use Rattle.bundle.specs.Bundle.Last.{none, after}
-use Rattle.bundle.specs.Told.{factTold, factRefusal, stepTold, stepRefusal, bundleTold, bundleRefusal, factRest, lastOf, ascendsAfter, stepFrom}
+use Rattle.bundle.specs.Told.{factTold, factRefusal, stepTold, stepRefusal, bundleTold, bundleRefusal, factRest, lastOf, beforeFirst, afterFact, stepFrom}
+use Rattle.bundle.specs.declared.before.Before.{Before}
 use Rattle.bundle.specs.declared.facts.Facts.{Facts}
 use Rattle.bundle.specs.declared.one.FactRead.{FactRead}
 use Rattle.bundle.specs.declared.one.FactRead.the-variants.{Read as ReadFact, Refused as RefusedFact}
@@ -100,13 +101,20 @@ module _ (s : List ℕ) (at : ℕ) (n : Num) (is : told n ≡ numberAt s at most
             → gives (record { value = g; next = end }) ≡ factRest s predicate at
         role-read b end g read is-g = rw (to-object, read, is-g)
 
--- the fact before, as a walk holds it
-module _ (w : Walk) (f : Fact) where
-  pub after-none : w .any ≡ false → true ≡ ascendsAfter w f
+-- the fact before, as the code holds it
+pub first-before : (f : Fact) → f ≡ record { predicate = 0; subject = 0; object = 0 } → record { last = f; any = false } ≡ beforeFirst
+first-before f is = rw is
+
+pub before-first : lastOf beforeFirst ≡ none
+unfolding lastOf
+before-first = refl
+
+module _ (b : Before) (f : Fact) where
+  pub after-none : b .any ≡ false → true ≡ ascends (lastOf b) f
   unfolding lastOf
   after-none h = rw h
 
-  pub after-last : (r : Bool) → r ≡ below (w .last) f → w .any ≡ true → r ≡ ascendsAfter w f
+  pub after-last : (r : Bool) → r ≡ below (b .last) f → b .any ≡ true → r ≡ ascends (lastOf b) f
   unfolding lastOf
   after-last r is h = rw h is
 
@@ -116,10 +124,10 @@ module _ (h : Head) (s : List ℕ) (w : Walk) (got : FactRead) (is : factTold go
   unfolding stepFrom
   step-refused r x stopped same = rw (← is, same, stopped)
 
-  module _ (f : Fact) (next : ℕ) (read : got ≡ ReadFact f next) (t : Bool) (is-t : t ≡ ascendsAfter w f) where
-    pub step-on : t ≡ true → gives (record { at = next; last = f; any = true }) ≡ stepFrom (predicateKnown h) s w
+  module _ (f : Fact) (next : ℕ) (read : got ≡ ReadFact f next) (t : Bool) (is-t : t ≡ ascends (lastOf (w .before)) f) where
+    pub step-on : (b : Before) → b ≡ afterFact f → t ≡ true → gives (record { at = next; before = b }) ≡ stepFrom (predicateKnown h) s w
     unfolding stepFrom
-    step-on e = rw (← is, read, ← is-t, e)
+    step-on b is-b e = rw (← is, read, ← is-t, e, is-b)
 
     pub step-order : t ≡ false → refuses (refusal 8 1 (w .at)) ≡ stepFrom (predicateKnown h) s w
     unfolding stepFrom
@@ -127,25 +135,24 @@ module _ (h : Head) (s : List ℕ) (w : Walk) (got : FactRead) (is : factTold go
 
 -- the facts from a walk on
 abbrev pub restOf : (ℕ → Bool) → List ℕ → Walk → ℕ → Answer ℕ
-restOf known s w n = factsFrom known s (lastOf w) n (w .at)
+restOf known s w n = factsFrom known s (lastOf (w .before)) n (w .at)
 
 module _ (known : ℕ → Bool) (s : List ℕ) where
-  pub walk-starts : (n start : ℕ) (f : Fact) → factsFrom known s none n start ≡ restOf known s (record { at = start; last = f; any = false }) n
-  unfolding lastOf
-  walk-starts n start f = refl
+  pub walk-starts : (n start : ℕ) (b : Before) → b ≡ beforeFirst → factsFrom known s none n start ≡ restOf known s (record { at = start; before = b }) n
+  walk-starts n start b is = rw (is, before-first)
 
   by-test : (n at : ℕ) (f : Read Fact) (t : Bool)
       → cond t (factsFrom known s (after (f .value)) n (f .next)) (refuses (refusal 8 1 at))
-      ≡ (cond t (gives (record { at = f .next; last = f .value; any = true })) (refuses (refusal 8 1 at)) then λ w. restOf known s w n)
+      ≡ (cond t (gives (record { at = f .next; before = afterFact (f .value) })) (refuses (refusal 8 1 at)) then λ w. restOf known s w n)
   unfolding lastOf
   by-test n at f true = refl
   by-test n at f false = refl
 
   by-fact : (w : Walk) (n : ℕ) (a : Answer (Read Fact))
-      → (a then λ f. cond (ascendsAfter w (f .value)) (factsFrom known s (after (f .value)) n (f .next)) (refuses (refusal 8 1 (w .at))))
-      ≡ ((a then λ f. cond (ascendsAfter w (f .value)) (gives (record { at = f .next; last = f .value; any = true })) (refuses (refusal 8 1 (w .at))))
+      → (a then λ f. cond (ascends (lastOf (w .before)) (f .value)) (factsFrom known s (after (f .value)) n (f .next)) (refuses (refusal 8 1 (w .at))))
+      ≡ ((a then λ f. cond (ascends (lastOf (w .before)) (f .value)) (gives (record { at = f .next; before = afterFact (f .value) })) (refuses (refusal 8 1 (w .at))))
       then λ w′. restOf known s w′ n)
-  by-fact w n (gives f) = by-test n (w .at) f (ascendsAfter w (f .value))
+  by-fact w n (gives f) = by-test n (w .at) f (ascends (lastOf (w .before)) (f .value))
   by-fact w n (refuses r) = refl
 
   -- one turn of the walk
@@ -192,4 +199,4 @@ module _ (h : Head) (s : List ℕ) (n : Num) (is : told n ≡ countAt s 0 mostFa
       unfolding checkBundle
       bundle-accepted at is-at = rw (← is, read, ← walked, is-end, ← ended, is-at)
 
-pub ruleset reading = (fact-no-refusal, step-no-refusal, bundle-no-refusal, subject-refused, predicate-refused, predicate-unknown, predicate-known, predicate-any, concept-read, object-refused, role-read, after-none, after-last, step-refused, step-on, step-order, walk-starts, walk-refused, walk-on, walk-ends, count-refused, facts-refused, end-refused, bundle-accepted, needs)
+pub ruleset reading = (fact-no-refusal, step-no-refusal, bundle-no-refusal, subject-refused, predicate-refused, predicate-unknown, predicate-known, predicate-any, concept-read, object-refused, role-read, first-before, after-none, after-last, step-refused, step-on, step-order, walk-starts, walk-refused, walk-on, walk-ends, count-refused, facts-refused, end-refused, bundle-accepted, needs)

@@ -11,6 +11,7 @@ use Rattle.site.specs.declared.fact.Fact.{Fact}
 use Rattle.site.specs.Limits.{mostThing}
 use Rattle.bundle.specs.Bundle.{Last, factAt, ascends}
 use Rattle.bundle.specs.Bundle.Last.{none, after}
+use Rattle.bundle.specs.declared.before.Before.{Before}
 use Rattle.bundle.specs.declared.facts.Facts.{Facts}
 use Rattle.bundle.specs.declared.one.FactRead.{FactRead}
 use Rattle.bundle.specs.declared.one.FactRead.the-variants.{Read as ReadFact, Refused as RefusedFact}
@@ -59,15 +60,18 @@ factRest s predicate at =
     (numberAt s (a .next) mostThing 1 then λ b.
     gives (record { value = record { predicate = predicate; subject = a .value; object = b .value }; next = b .next }))
 
--- the fact before, as a walk holds it
-unfoldable pub lastOf : Walk → Last
-lastOf w = cond (w .any) (after (w .last)) none
+-- the fact before, as the code holds it
+unfoldable pub lastOf : Before → Last
+lastOf b = cond (b .any) (after (b .last)) none
 
-abbrev pub ascendsAfter : Walk → Fact → Bool
-ascendsAfter w f = ascends (lastOf w) f
+abbrev pub beforeFirst : Before
+beforeFirst = record { last = record { predicate = 0; subject = 0; object = 0 }; any = false }
+
+abbrev pub afterFact : Fact → Before
+afterFact f = record { last = f; any = true }
 
 -- one fact of the walk, judged: the walk after it
 unfoldable pub stepFrom : (ℕ → Bool) → List ℕ → Walk → Answer Walk
 stepFrom known s w =
     factAt known s (w .at) then λ f.
-    cond (ascendsAfter w (f .value)) (gives (record { at = f .next; last = f .value; any = true })) (refuses (refusal 8 1 (w .at)))
+    cond (ascends (lastOf (w .before)) (f .value)) (gives (record { at = f .next; before = afterFact (f .value) })) (refuses (refusal 8 1 (w .at)))

@@ -1,12 +1,25 @@
 // Reading and writing a bundle of facts.
+mod again;
+mod before;
 mod check;
 mod facts;
 mod one;
+mod store;
 mod walk;
+mod writing;
 
+pub use again::BundleWrote;
+pub use again::push_facts;
+pub use again::write_bundle_again;
+pub use before::Before;
 pub use check::BundleRead;
 pub use check::check_bundle;
 pub use facts::Facts;
 pub use one::FactRead;
 pub use one::any_fact_at;
 pub use one::fact_at;
+pub use store::fact_size;
+pub use store::put_number;
+pub use store::write_fact;
+pub use writing::Writing;
+pub use writing::push;

@@ -3,19 +3,18 @@ ghost use mathlib.Core.Path.{_≡_};
 ghost use Rattle.site.specs.Told.{endTold};
 ghost use Rattle.bundle.specs.Bundle.{factsFrom, predicateKnown};
 ghost use Rattle.bundle.specs.Bundle.Last.{none};
-ghost use Rattle.bundle.specs.Told.{stepTold, stepRefusal, stepFrom, ascendsAfter};
+ghost use Rattle.bundle.specs.Told.{stepTold, stepRefusal, stepFrom};
+use crate::before::Before;
 use crate::one::FactRead;
 use crate::one::fact_at;
 use number::Refusal;
 use rules::Head;
 use site::End;
-use site::Fact;
 
 // Where the walk is, and the fact before, if there is any.
 pub struct Walk {
     pub at: usize,
-    pub last: Fact,
-    pub any: bool,
+    pub before: Before,
 }
 
 // What one step of the walk finds: the walk after the fact, or the refusal.
@@ -41,16 +40,6 @@ impl Step {
 }
 
 impl Walk {
-    // Is a fact above the one before it?
-    fn ascends(self, fact: Fact) -> bool
-        ensures { λ r. ⌜ r ≡ ascendsAfter self fact ⌝ }
-    {
-        if self.any {
-            return self.last.below(fact);
-        }
-        true
-    }
-
     // The fact at the walk's place is read, then judged by its order.
     pub fn step(self, s: &[u8], head: Head) -> Step
         ensures { λ r. ⌜ stepTold r ≡ stepFrom (predicateKnown head) (now (s .entry)) self ⌝ }
@@ -59,11 +48,11 @@ impl Walk {
         let FactRead::Read(fact, next) = got else {
             return Step::Refused(got.refusal());
         };
-        if self.ascends(fact) {
+        let before = self.before;
+        if before.ascends(fact) {
             return Step::On(Walk {
                 at: next,
-                last: fact,
-                any: true,
+                before: Before::after(fact),
             });
         }
         Step::Refused(Refusal {
@@ -80,8 +69,7 @@ pub fn walk_facts(s: &[u8], head: Head, count: u32, start: usize) -> End
 {
     let mut walk = Walk {
         at: start,
-        last: Fact::new(0, 0, 0),
-        any: false,
+        before: Before::none(),
     };
     let mut left = count;
     while 0 < left {

@@ -12,5 +12,6 @@ step-spec =
     (λ c κs. search reading)
     (λ c. search reading)
     (λ c κs. search reading)
+    (λ c κs. search reading)
     (λ c. search reading)
     (λ c. search reading))

@@ -1,0 +1,259 @@
+-- Writing an accepted bundle's facts: the loop's turns, the two passes put together, and the law that the same bytes come out.
+use Prim.Native.Nat.{ℕ, zero, suc, _+_, _-_, _≤_, _<_}
+use mathlib.Core.Path.{_≡_, refl, sym, ap, _∙_}
+use mathlib.Core.Bool.{Bool, true, false, cond, _&&_, not}
+use mathlib.Core.List.{List, [], _∷_}
+use lib.ListN.{length}
+use lib.Seq.{sets, length-sets}
+use lib.Dec.{ltb, leb, eqb}
+use native.Mathlib.Omega.{arith}
+use borrow.Author.Tests.{lt-ltb, le-leb, lt-leb, ltb-true, ltb-false, eq-eqb}
+use borrow.Author.Needs.{needs}
+use Rattle.number.specs.Answer.{Answer, Read, refusal, _then_, over, laid}
+use Rattle.number.specs.Answer.Answer.{gives, refuses}
+use Rattle.number.specs.Number.{bytesOf, threeBytes}
+use Rattle.number.specs.Told.{Stores, Stored}
+use Rattle.number.specs.declared.refusal.Refusal.{Refusal}
+use Rattle.number.proofs.Laws.{Bytes, Bounds, bounds}
+use Rattle.number.proofs.Writing.{picked}
+use Rattle.site.specs.declared.fact.Fact.{Fact}
+use Rattle.site.specs.Kinds.{ofConcept}
+use Rattle.site.specs.Limits.{mostFacts, mostNumber, mostRoles, mostThing}
+use Rattle.rules.specs.declared.head.Head.{Head}
+use Rattle.bundle.specs.Again.{planAgain, WritesAgain, PushesAll, Measures, StoresBundle}
+use Rattle.bundle.specs.Bundle.{Last, factAt, ascends, factsIn, factsOf, predicateKnown, checkBundle, readBundle, factBytes, bundleOf}
+use Rattle.bundle.specs.Bundle.Last.{none}
+use Rattle.bundle.specs.Lawful.{LawfulFact, LawfulFrom, LawfulFacts}
+use Rattle.bundle.specs.Lawful.LawfulFrom.{done, next as one-more}
+use Rattle.bundle.specs.Pushed.{started, faultOf, judged, settled, placed, storedBy, Pushes, stateAfter, memoryAfter}
+use Rattle.bundle.specs.Records.{roomFor, recordFault}
+use Rattle.bundle.specs.Told.{factTold, bundleTold, bundleRefusal}
+use Rattle.bundle.specs.declared.facts.Facts.{Facts}
+use Rattle.bundle.specs.declared.one.FactRead.{FactRead}
+use Rattle.bundle.specs.declared.one.FactRead.the-variants.{Read as ReadFact, Refused as RefusedFact}
+use Rattle.bundle.specs.declared.check.BundleRead.{BundleRead}
+use Rattle.bundle.specs.declared.check.BundleRead.the-variants.{Accepted, Refused as RefusedBundle}
+use Rattle.bundle.specs.declared.writing.Writing.{Writing}
+use Rattle.bundle.specs.declared.again.BundleWrote.{BundleWrote}
+use Rattle.bundle.specs.declared.again.BundleWrote.the-variants.{Written, Refused}
+use Rattle.bundle.proofs.Runs.{FactThere, Run}
+use Rattle.bundle.proofs.Runs.Run.{stop, more}
+use Rattle.bundle.proofs.Accepted.{lawful-fact, BundleThere, bundle-there}
+use Rattle.bundle.proofs.Longest.{declared-low}
+use Rattle.bundle.proofs.RoundTrips.{accepted-again}
+use Rattle.bundle.proofs.Pushing.{Sound, bundle-size, measures-all, ends-all, stores-all, pass-keeps}
+use Rattle.bundle.proofs.Pushing.Sound.{no-more, sound}
+
+-- lawful facts are pushed without a fault
+module _ (h : Head) where
+  no-stray : (f : Fact) → LawfulFact h f → (t : Bool) → ofConcept f ≡ t → (ofConcept f && not (eqb (f .object) 0)) ≡ false
+  no-stray f l true e = rw (e, eq-eqb (f .object) 0 (l .no-object e))
+  no-stray f l false e = rw e
+
+  lawful-fault : (last : Last) (f : Fact) → LawfulFact h f → f .predicate ≤ mostNumber → ascends last f ≡ true → faultOf h last f ≡ 0
+  unfolding faultOf recordFault
+  lawful-fault last f l low up =
+      rw (
+        le-leb (f .predicate) mostNumber low,
+        l .known,
+        no-stray f l (ofConcept f) refl,
+        le-leb (f .subject) mostThing (l .subject-within),
+        le-leb (f .object) mostThing (l .object-within),
+        up,
+      )
+
+  pub lawful-sound : {last : Last} {fs : List Fact} → h .roles ≤ mostRoles → LawfulFrom h last fs → Sound h last fs
+  lawful-sound few done = no-more
+  lawful-sound few (one-more {last = last} {f = f} l up rest) =
+      let low : f .predicate < 96 = declared-low (h .concepts) (h .roles) (f .predicate) few (l .known) in
+      sound (lawful-fault last f l (omega arith) up) (lawful-sound few rest)
+
+  -- and so are facts that were read, whatever rules accepted them
+  pub run-sound : (s : List ℕ) {last : Last} {fs : List Fact} {at end : ℕ} → Run (predicateKnown h) s last fs at end → Sound h last fs
+  run-sound s stop = no-more
+  run-sound s (more {last = last} {f = f} {at = at} there up run) =
+      sound
+      (lawful-fault last f (lawful-fact h s there) (bounds s at mostThing 1 (f .predicate) (there .place-of-subject) (there .predicate) .within) up)
+      (run-sound s run)
+
+-- the loop: what the whole pass comes to is what the rest comes to from here
+pub record Pushing (h : Head) (out₀ s : List ℕ) (w₀ : Writing) (n start : ℕ) (out : List ℕ) (w : Writing) (left at : ℕ) : Type 0 where
+  pub same-room : length out ≡ length out₀
+  pub state : stateAfter h (length out₀) w₀ (factsIn s n start) ≡ stateAfter h (length out₀) w (factsIn s left at)
+  pub memory : memoryAfter h out₀ w₀ (factsIn s n start) ≡ memoryAfter h out w (factsIn s left at)
+
+pub pass-starts : (h : Head) (out s : List ℕ) (w : Writing) (n start : ℕ) → Pushing h out s w n start out w n start
+pass-starts h out s w n start = record { same-room = refl; state = refl; memory = refl }
+
+-- the facts from a place on
+module _ (s : List ℕ) (at : ℕ) (got : FactRead) (is : factTold got ≡ factAt (λ _. true) s at) where
+  one-on : (f : Fact) (next : ℕ) → got ≡ ReadFact f next → (n : ℕ) → factsIn s (suc n) at ≡ f ∷ factsIn s n next
+  unfolding factsIn
+  one-on f next read n = rw (← is, read)
+
+  one-stop : (x : Refusal) → got ≡ RefusedFact x → (n : ℕ) → factsIn s (suc n) at ≡ []
+  unfolding factsIn
+  one-stop x stopped n = rw (← is, stopped)
+
+  module _ (left : ℕ) (some : 0 < left) where
+    opened : left ≡ suc (left - 1)
+    opened = omega arith
+
+    facts-on : (f : Fact) (next : ℕ) → got ≡ ReadFact f next → factsIn s left at ≡ f ∷ factsIn s (left - 1) next
+    facts-on f next read = ap (λ n. factsIn s n at) opened ∙ one-on f next read (left - 1)
+
+    facts-stop : (x : Refusal) → got ≡ RefusedFact x → factsIn s left at ≡ []
+    facts-stop x stopped = ap (λ n. factsIn s n at) opened ∙ one-stop x stopped (left - 1)
+
+abbrev AsLong : List ℕ → List ℕ → Type 0
+AsLong out l = length l ≡ length out
+
+length-stored : (out : List ℕ) (w : Writing) (f : Fact) → length (storedBy out w f) ≡ length out
+unfolding storedBy
+length-stored out w f =
+    picked (AsLong out) _ _ (settled w) (λ t. refl)
+    (λ t.
+    picked (AsLong out) _ _ (leb (w .at + length (factBytes f)) (length out))
+    (λ u. picked (AsLong out) _ _ (w .storing) (λ v. length-sets out (w .at) (factBytes f)) (λ v. refl))
+    (λ u. refl))
+
+state-on : (h : Head) (room : ℕ) (w : Writing) (f : Fact) (fs : List Fact) → stateAfter h room w (f ∷ fs) ≡ stateAfter h room (placed room (judged h w f) f) fs
+unfolding stateAfter
+state-on h room w f fs = refl
+
+memory-on : (h : Head) (out : List ℕ) (w : Writing) (f : Fact) (fs : List Fact)
+    → memoryAfter h out w (f ∷ fs) ≡ memoryAfter h (storedBy out (judged h w f) f) (placed (length out) (judged h w f) f) fs
+unfolding memoryAfter
+memory-on h out w f fs = refl
+
+module _ (h : Head) (out₀ s : List ℕ) (w₀ : Writing) (n start : ℕ) (out : List ℕ) (w : Writing) (left at : ℕ) (inv : Pushing h out₀ s w₀ n start out w left at) where
+  pub pass-on : 0 < left → (got : FactRead) → factTold got ≡ factAt (λ _. true) s at → (f : Fact) (next : ℕ) → got ≡ ReadFact f next
+      → (w′ : Writing) (out′ : List ℕ) → Pushes h out w f w′ out′ → Pushing h out₀ s w₀ n start out′ w′ (left - 1) next
+  pass-on k got is f next read w′ out′ p =
+      let facts = facts-on s at got is left k f next read in
+      let rest : List Fact = factsIn s (left - 1) next in
+      let moved : placed (length out₀) (judged h w f) f ≡ w′ = ap (λ r. placed r (judged h w f) f) (sym (inv .same-room)) ∙ sym (p .state) in
+      record {
+        same-room = ap length (p .memory) ∙ length-stored out (judged h w f) f ∙ inv .same-room;
+        state = inv .state ∙ ap (stateAfter h (length out₀) w) facts ∙ state-on h (length out₀) w f rest ∙ ap (λ x. stateAfter h (length out₀) x rest) moved;
+        memory = inv .memory ∙ ap (memoryAfter h out w) facts ∙ memory-on h out w f rest
+            ∙ ap (λ l. memoryAfter h l (placed (length out) (judged h w f) f) rest) (sym (p .memory))
+            ∙ ap (λ x. memoryAfter h out′ x rest) (sym (p .state));
+      }
+
+module _ (h : Head) (out₀ s : List ℕ) (w₀ : Writing) (b : Facts) (out : List ℕ) (w : Writing) (left at : ℕ) (inv : Pushing h out₀ s w₀ (b .count) (b .start) out w left at) where
+  stopped-here : factsIn s left at ≡ [] → PushesAll h out₀ s b w₀ w out
+  unfolding stateAfter memoryAfter
+  stopped-here e =
+      record { state = sym (inv .state ∙ ap (stateAfter h (length out₀) w) e); memory = sym (inv .memory ∙ ap (memoryAfter h out w) e) }
+
+  pub pass-stops : 0 < left → (got : FactRead) → factTold got ≡ factAt (λ _. true) s at → (x : Refusal) → got ≡ RefusedFact x → PushesAll h out₀ s b w₀ w out
+  pass-stops k got is x stopped = stopped-here (facts-stop s at got is left k x stopped)
+
+  pub pass-ends : left ≤ 0 → PushesAll h out₀ s b w₀ w out
+  unfolding factsIn
+  pass-ends k = stopped-here (let e : left ≡ 0 = omega arith in ap (λ n. factsIn s n at) e)
+
+-- each pass from its start
+module _ (h : Head) (out s : List ℕ) (b : Facts) (w₀ : Writing) where
+  pub pass-measured : w₀ ≡ started (b .count) (length out) false → (w : Writing) (out′ : List ℕ) → PushesAll h out s b w₀ w out′ → Measures h out s b (w .short) out′
+  pass-measured is w out′ p =
+      record {
+        short = ap (λ x. x .short) (p .state ∙ ap (λ x. stateAfter h (length out) x (factsOf s b)) is);
+        memory = p .memory ∙ pass-keeps h out w₀ (factsOf s b) (ap (λ x. x .storing) is);
+      }
+
+  module _ (is : w₀ ≡ started (b .count) (length out) true) (n : ℕ) (out₁ : List ℕ) (counted : Stored out 0 (b .count) n out₁) where
+    as-long : length out₁ ≡ length out
+    as-long = ap length (counted .memory) ∙ length-sets out 0 (bytesOf (b .count))
+
+    pub pass-stored : (w : Writing) (out′ : List ℕ) → PushesAll h out₁ s b w₀ w out′ → StoresBundle h out s b (w .at) out′
+    pass-stored w out′ p =
+        record {
+          place = ap (λ x. x .at)
+              (p .state ∙ ap (λ r. stateAfter h r w₀ (factsOf s b)) as-long ∙ ap (λ x. stateAfter h (length out) x (factsOf s b)) is);
+          memory = p .memory ∙ ap (λ x. memoryAfter h out₁ x (factsOf s b)) is
+              ∙ ap (λ l. memoryAfter h l (started (b .count) (length out) true) (factsOf s b)) (counted .memory);
+        }
+
+-- the two passes
+module _ (h : Head) (s out : List ℕ) (got : BundleRead) (is : bundleTold got ≡ checkBundle h s) where
+  pub again-refused : (r x : Refusal) → got ≡ RefusedBundle x → r ≡ bundleRefusal got → WritesAgain h s out (Refused r) out
+  unfolding planAgain readBundle
+  again-refused r x stopped same =
+      let e : checkBundle h s ≡ refuses r = sym is ∙ ap bundleTold stopped ∙ ap refuses (sym (same ∙ ap bundleRefusal stopped)) in
+      record { answer = rw e; memory = rw e }
+
+  module _ (b : Facts) (read : got ≡ Accepted b) where
+    accepted : checkBundle h s ≡ gives b
+    accepted = sym is ∙ ap bundleTold read
+
+    there : BundleThere h s b
+    there = bundle-there h s b accepted
+
+    few : length (factsOf s b) ≤ mostFacts
+    few = omega (arith, there .count, there .count-within)
+
+    fine : Sound h none (factsOf s b)
+    fine = run-sound h s (there .run)
+
+    planned : planAgain h s (length out) ≡ roomFor (length out) (bundleOf (factsOf s b))
+    unfolding planAgain readBundle
+    planned = rw accepted
+
+    start-of : (storing : Bool) → started (b .count) (length out) storing ≡ started (length (factsOf s b)) (length out) storing
+    start-of storing = ap (λ n. started n (length out) storing) (sym (there .count))
+
+    module _ (t : Bool) (out₁ : List ℕ) (first : Measures h out s b t out₁) where
+      measured : t ≡ ltb (length out) (length (bundleOf (factsOf s b)))
+      measured =
+          first .short ∙ ap (λ x. stateAfter h (length out) x (factsOf s b) .short) (start-of false) ∙ measures-all h (length out) (factsOf s b) fine few false
+
+      pub again-short : t ≡ true → WritesAgain h s out (Refused (refusal 9 2 0)) out₁
+      unfolding roomFor
+      again-short e =
+          let over-room : leb (length (bundleOf (factsOf s b))) (length out) ≡ false = lt-leb _ (length out) (ltb-true (length out) _ (sym measured ∙ e)) in
+          let stops : planAgain h s (length out) ≡ refuses (refusal 9 2 0) = planned ∙ rw over-room in
+          record { answer = rw stops; memory = rw stops (first .memory) }
+
+      module _ (fits : t ≡ false) where
+        room : length (bundleOf (factsOf s b)) ≤ length out
+        room = ltb-false (length out) _ (sym measured ∙ fits)
+
+        gave : planAgain h s (length out) ≡ gives (bundleOf (factsOf s b))
+        unfolding roomFor
+        gave = planned ∙ rw (le-leb _ (length out) room)
+
+        pub again-fits : Stores out₁ 0 (b .count)
+        again-fits =
+            let n = ap (λ m. length (bytesOf m)) (there .count) in
+            record {
+              formed = omega (arith, there .count-within);
+              room = omega (arith, room, bundle-size (factsOf s b), n, ap length (first .memory));
+            }
+
+        pub again-written : (n : ℕ) (out₂ : List ℕ) → StoresBundle h out₁ s b n out₂ → WritesAgain h s out (Written n) out₂
+        again-written n out₂ second = stored (rw (first .memory) at second)
+          where
+            stored : StoresBundle h out s b n out₂ → WritesAgain h s out (Written n) out₂
+            stored p =
+                let facts : List Fact = factsOf s b in
+                let at-end : n ≡ length (bundleOf facts) =
+                p .place ∙ ap (λ x. stateAfter h (length out) x facts .at) (start-of true) ∙ ends-all h (length out) facts fine few true room in
+                let bytes : out₂ ≡ sets out 0 (bundleOf facts) =
+                p .memory ∙ ap (λ x. memoryAfter h (sets out 0 (bytesOf (b .count))) x facts) (start-of true)
+                ∙ ap (λ m. memoryAfter h (sets out 0 (bytesOf m)) (started (length facts) (length out) true) facts) (sym (there .count))
+                ∙ stores-all h facts fine few out room in
+                record { answer = rw gave (ap gives at-end); memory = rw gave bytes }
+
+-- what is written is what was read
+module _ (h : Head) (s : List ℕ) (bytes : Bytes s) where
+  same-plan : (room : ℕ) (a : Answer Facts) → checkBundle h s ≡ a → (over (factsOf s) a then λ facts. roomFor room (bundleOf facts)) ≡ (a then λ _. roomFor room s)
+  same-plan room (gives b) is = ap (roomFor room) (accepted-again s bytes h b is)
+  same-plan room (refuses r) is = refl
+
+  pub again-same : (room : ℕ) → planAgain h s room ≡ (checkBundle h s then λ _. roomFor room s)
+  unfolding planAgain readBundle
+  again-same room = same-plan room (checkBundle h s) refl
+
+pub ruleset rewriting = (pass-starts, pass-on, pass-stops, pass-ends, pass-measured, pass-stored, again-refused, again-short, again-fits, again-written, needs)

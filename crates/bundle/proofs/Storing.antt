@@ -1,0 +1,343 @@
+-- What the tests of the writing functions say of a fact's bytes and of the writing's state: one law for each way out.
+use Prim.Native.Nat.{ℕ, zero, suc, _+_, _-_, _≤_, _<_, _^_}
+use mathlib.Core.Path.{_≡_, refl, sym, ap, _∙_}
+use mathlib.Core.Bool.{Bool, true, false, cond, _&&_, _||_, not, true≢false}
+use mathlib.Core.List.{List, [], _∷_, _++_, append-nil}
+use lib.ListN.{length, length-append}
+use lib.Seq.{sets, length-sets}
+use lib.Dec.{ltb, leb, eqb}
+use mir.Val.{Fits}
+use mir.Syntax.{w64}
+use native.Mathlib.Omega.{arith}
+use borrow.Author.Tests.{lt-ltb, le-ltb, le-leb, lt-leb, ne-eqb, leb-true, leb-false, not-true, not-false, eqb-true}
+use borrow.Author.Needs.{needs}
+use Rattle.number.specs.Answer.{Answer, refusal, over, laid}
+use Rattle.number.specs.Answer.Answer.{gives, refuses}
+use Rattle.number.specs.Number.{bytesOf, plan, threeBytes}
+use Rattle.number.specs.Told.{toldWrote, Writes, Stores, Stored}
+use Rattle.number.specs.declared.refusal.Refusal.{Refusal}
+use Rattle.number.specs.declared.write.Wrote.{Wrote}
+use Rattle.number.specs.declared.write.Wrote.the-variants.{Next, Refused}
+use Rattle.number.proofs.Laws.{at-most-three}
+use Rattle.number.proofs.Writing.{picked}
+use Rattle.site.specs.declared.fact.Fact.{Fact}
+use Rattle.site.specs.Codes.{predicateDeclared}
+use Rattle.site.specs.Kinds.{ofConcept}
+use Rattle.site.specs.Limits.{mostFacts, mostNumber, mostThing}
+use Rattle.rules.specs.declared.head.Head.{Head}
+use Rattle.bundle.specs.Bundle.{Last, ascends, factBytes, predicateKnown}
+use Rattle.bundle.specs.Records.{recordFault}
+use Rattle.bundle.specs.Told.{lastOf, beforeFirst, afterFact}
+use Rattle.bundle.specs.Pushed.{StoresFact, StoredFact, started, faultOf, stopped, counted, judged, settled, shortened, movedTo, placed, storedBy, Pushes}
+use Rattle.bundle.specs.declared.before.Before.{Before}
+use Rattle.bundle.specs.declared.writing.Writing.{Writing}
+use Rattle.bundle.proofs.Runs.{never, same-given}
+
+-- the size of a fact
+module _ (v w : ℕ) where
+  pub two-fit : (a b : ℕ) → a ≡ length (bytesOf v) → b ≡ length (bytesOf w) → Fits w64 (a + b)
+  two-fit a b is-a is-b = record { fits = omega (arith, at-most-three v, at-most-three w) }
+
+  pub three-fit : (x a b c : ℕ) → a ≡ length (bytesOf v) → b ≡ length (bytesOf w) → c ≡ length (bytesOf x) → Fits w64 (a + (b + c))
+  three-fit x a b c is-a is-b is-c = record { fits = omega (arith, at-most-three v, at-most-three w, at-most-three x) }
+
+module _ (f : Fact) where
+  concept-bytes : ofConcept f ≡ true → factBytes f ≡ bytesOf (f .predicate) ++ bytesOf (f .subject)
+  unfolding factBytes
+  concept-bytes h = rw (h, append-nil (bytesOf (f .subject)))
+
+  role-bytes : ofConcept f ≡ false → factBytes f ≡ bytesOf (f .predicate) ++ (bytesOf (f .subject) ++ bytesOf (f .object))
+  unfolding factBytes
+  role-bytes h = rw h
+
+  module _ (t : Bool) (is-t : t ≡ ofConcept f) (p a : ℕ) (is-p : p ≡ length (bytesOf (f .predicate))) (is-a : a ≡ length (bytesOf (f .subject))) where
+    pub concept-size : t ≡ true → p + a ≡ length (factBytes f)
+    concept-size h = rw (concept-bytes (sym is-t ∙ h), length-append (bytesOf (f .predicate)) (bytesOf (f .subject)), is-p, is-a)
+
+    pub role-size : (o : ℕ) → o ≡ length (bytesOf (f .object)) → t ≡ false → p + (a + o) ≡ length (factBytes f)
+    role-size o is-o h =
+        rw (
+          role-bytes (sym is-t ∙ h),
+          length-append (bytesOf (f .predicate)) (bytesOf (f .subject) ++ bytesOf (f .object)),
+          length-append (bytesOf (f .subject)) (bytesOf (f .object)),
+          is-p,
+          is-a,
+          is-o,
+        )
+
+-- a number that has room and a form is written
+module _ (out : List ℕ) (at v : ℕ) (fits : Stores out at v) (r : Wrote) (out′ : List ℕ) (writes : Writes out at v threeBytes r out′) where
+  planned : plan (length out) at v threeBytes ≡ gives (bytesOf v)
+  unfolding plan
+  planned = rw (le-leb v threeBytes (fits .formed), le-leb (at + length (bytesOf v)) (length out) (fits .room))
+
+  pub put-next : (next : ℕ) → r ≡ Next next → Stored out at v next out′
+  put-next next is =
+      let told : gives next ≡ gives (at + length (bytesOf v)) = sym (ap toldWrote is) ∙ writes .answer ∙ ap (over (λ bytes. at + length bytes)) planned in
+      record { place = same-given told; memory = writes .memory ∙ ap (laid out at) planned }
+
+  pub put-refused : (x : Refusal) → r ≡ Refused x → Stored out at v at out′
+  put-refused x is = absurd (never (sym (ap toldWrote is) ∙ writes .answer ∙ ap (over (λ bytes. at + length bytes)) planned))
+
+-- stores one after the other
+pub sets-append : (xs ys out : List ℕ) (at : ℕ) → sets out at (xs ++ ys) ≡ sets (sets out at xs) (at + length xs) ys
+sets-append [] ys out at = let e : at + 0 ≡ at = omega arith in rw e
+sets-append (x ∷ xs) ys out at =
+    let e : suc at + length xs ≡ at + suc (length xs) = omega arith in
+    sets-append xs ys (lib.ListN.set out at x) (suc at) ∙ ap (λ n. sets (sets (lib.ListN.set out at x) (suc at) xs) n ys) e
+
+module _ (out : List ℕ) (at : ℕ) (f : Fact) (fits : StoresFact out at f) where
+  size-of-fact : length (bytesOf (f .predicate)) + length (bytesOf (f .subject)) ≤ length (factBytes f)
+  unfolding factBytes
+  size-of-fact =
+      let o : List ℕ = cond (ofConcept f) [] (bytesOf (f .object)) in
+      omega (arith, length-append (bytesOf (f .predicate)) (bytesOf (f .subject) ++ o), length-append (bytesOf (f .subject)) o)
+
+  pub first-fits : Stores out at (f .predicate)
+  first-fits = record { formed = fits .predicate-formed; room = omega (arith, fits .room, size-of-fact) }
+
+  module _ (p : ℕ) (out₁ : List ℕ) (first : Stored out at (f .predicate) p out₁) where
+    length-first : length out₁ ≡ length out
+    length-first = ap length (first .memory) ∙ length-sets out at (bytesOf (f .predicate))
+
+    pub second-fits : Stores out₁ p (f .subject)
+    second-fits = record { formed = fits .subject-formed; room = omega (arith, fits .room, size-of-fact, length-first, first .place) }
+
+    module _ (q : ℕ) (out₂ : List ℕ) (second : Stored out₁ p (f .subject) q out₂) (t : Bool) (is-t : t ≡ ofConcept f) where
+      length-second : length out₂ ≡ length out
+      length-second = ap length (second .memory) ∙ length-sets out₁ p (bytesOf (f .subject)) ∙ length-first
+
+      both : out₂ ≡ sets (sets out at (bytesOf (f .predicate))) (at + length (bytesOf (f .predicate))) (bytesOf (f .subject))
+      both = rw (second .memory, first .memory, first .place)
+
+      pub concept-stored : t ≡ true → StoredFact out at f q out₂
+      concept-stored h =
+          let bytes = concept-bytes f (sym is-t ∙ h) in
+          record {
+            place = omega (arith, first .place, second .place, ap length bytes, length-append (bytesOf (f .predicate)) (bytesOf (f .subject)));
+            memory = both ∙ sym (ap (sets out at) bytes ∙ sets-append (bytesOf (f .predicate)) (bytesOf (f .subject)) out at);
+          }
+
+      module _ (role : t ≡ false) where
+        bytes-of-role : factBytes f ≡ bytesOf (f .predicate) ++ (bytesOf (f .subject) ++ bytesOf (f .object))
+        bytes-of-role = role-bytes f (sym is-t ∙ role)
+
+        size-of-role : length (factBytes f) ≡ length (bytesOf (f .predicate)) + (length (bytesOf (f .subject)) + length (bytesOf (f .object)))
+        size-of-role = rw (bytes-of-role, length-append (bytesOf (f .predicate)) (bytesOf (f .subject) ++ bytesOf (f .object)), length-append (bytesOf (f .subject)) (bytesOf (f .object)))
+
+        pub third-fits : Stores out₂ q (f .object)
+        third-fits =
+            record { formed = fits .object-formed; room = omega (arith, fits .room, size-of-role, length-second, first .place, second .place) }
+
+        pub role-stored : (r : ℕ) (out₃ : List ℕ) → Stored out₂ q (f .object) r out₃ → StoredFact out at f r out₃
+        role-stored r out₃ third =
+            let a : List ℕ = bytesOf (f .predicate) in
+            let b : List ℕ = bytesOf (f .subject) in
+            let c : List ℕ = bytesOf (f .object) in
+            let whole : sets out at (factBytes f) ≡ sets (sets (sets out at a) (at + length a) b) (at + length a + length b) c =
+            ap (sets out at) bytes-of-role ∙ sets-append a (b ++ c) out at ∙ sets-append b c (sets out at a) (at + length a) in
+            let there : q ≡ at + length a + length b = omega (arith, first .place, second .place) in
+            record {
+              place = omega (arith, size-of-role, first .place, second .place, third .place);
+              memory = third .memory ∙ ap (λ l. sets l q c) both ∙ ap (λ n. sets (sets (sets out at a) (at + length a) b) n c) there ∙ sym whole;
+            }
+
+-- the fault of a record, in the order of the tests
+module _ (f : Fact) (t : Bool) (is-t : t ≡ ofConcept f) (x : Bool) where
+  pub no-stray : t ≡ false → t ≡ (ofConcept f && x)
+  no-stray h = rw (← is-t, h)
+
+  pub maybe-stray : t ≡ true → x ≡ (ofConcept f && x)
+  maybe-stray h = rw (← is-t, h)
+
+module _ (h : Head) (b : Before) (f : Fact) where
+  pub fault-over : mostNumber < f .predicate → 5 ≡ faultOf h (lastOf b) f
+  unfolding faultOf
+  fault-over k = rw (lt-leb (f .predicate) mostNumber k)
+
+  module _ (low : f .predicate ≤ mostNumber) (t : Bool) (is-t : t ≡ predicateDeclared (h .concepts) (h .roles) (f .predicate)) where
+    pub fault-unknown : not t ≡ true → 5 ≡ faultOf h (lastOf b) f
+    unfolding faultOf recordFault
+    fault-unknown k = rw (le-leb (f .predicate) mostNumber low, ← is-t, k)
+
+    module _ (known : not t ≡ false) (u : Bool) (is-u : u ≡ (ofConcept f && not (eqb (f .object) 0))) where
+      pub fault-object : u ≡ true → 5 ≡ faultOf h (lastOf b) f
+      unfolding faultOf recordFault
+      fault-object k = rw (le-leb (f .predicate) mostNumber low, ← is-t, known, ← is-u, k)
+
+      module _ (plain : u ≡ false) where
+        pub fault-subject : mostThing < f .subject → 3 ≡ faultOf h (lastOf b) f
+        unfolding faultOf recordFault
+        fault-subject k = rw (le-leb (f .predicate) mostNumber low, ← is-t, known, ← is-u, plain, lt-leb (f .subject) mostThing k)
+
+        module _ (subject : f .subject ≤ mostThing) where
+          pub fault-thing : mostThing < f .object → 3 ≡ faultOf h (lastOf b) f
+          unfolding faultOf recordFault
+          fault-thing k =
+              rw (le-leb (f .predicate) mostNumber low, ← is-t, known, ← is-u, plain, le-leb (f .subject) mostThing subject, lt-leb (f .object) mostThing k)
+
+          module _ (object : f .object ≤ mostThing) (v : Bool) (is-v : v ≡ ascends (lastOf b) f) where
+            to-order : faultOf h (lastOf b) f ≡ cond (not v) 8 0
+            unfolding faultOf recordFault
+            to-order =
+                rw (
+                  le-leb (f .predicate) mostNumber low,
+                  ← is-t,
+                  known,
+                  ← is-u,
+                  plain,
+                  le-leb (f .subject) mostThing subject,
+                  le-leb (f .object) mostThing object,
+                  ← is-v,
+                )
+
+            pub no-fault : v ≡ true → 0 ≡ faultOf h (lastOf b) f
+            no-fault k = rw (to-order, k)
+
+            pub fault-order : v ≡ false → 8 ≡ faultOf h (lastOf b) f
+            fault-order k = rw (to-order, k)
+
+-- the start
+pub starts : (facts room : ℕ) (storing : Bool) (size : ℕ) (b : Before) → size ≡ length (bytesOf facts) → b ≡ beforeFirst
+    → record { count = 0; before = b; at = size; short = ltb room size; fault = 0; place = 0; storing = storing } ≡ started facts room storing
+starts facts room storing size b is is-b = rw (is, is-b)
+
+-- judging
+module _ (h : Head) (w : Writing) (f : Fact) where
+  pub judged-before : 0 < w .fault → w ≡ judged h w f
+  unfolding judged
+  judged-before k = rw (lt-ltb 0 (w .fault) k)
+
+  module _ (sound : w .fault ≤ 0) where
+    pub judged-full : mostFacts ≤ w .count → (r : Writing) → r ≡ stopped w 4 0 → r ≡ judged h w f
+    unfolding judged
+    judged-full k r is = rw (le-ltb 0 (w .fault) sound, le-leb mostFacts (w .count) k) is
+
+    module _ (few : w .count < mostFacts) (n : ℕ) (is-n : n ≡ faultOf h (lastOf (w .before)) f) where
+      pub judged-fault : 0 < n → (r : Writing) → r ≡ stopped w n (w .count) → r ≡ judged h w f
+      unfolding judged
+      judged-fault k r is = rw (le-ltb 0 (w .fault) sound, lt-leb mostFacts (w .count) few, ← is-n, lt-ltb 0 n k) is
+
+      pub judged-counted : n ≤ 0 → (b : Before) → b ≡ afterFact f
+          → record { count = w .count + 1; before = b; at = w .at; short = w .short; fault = 0; place = w .place; storing = w .storing } ≡ judged h w f
+      unfolding judged
+      judged-counted k b is = rw (le-ltb 0 (w .fault) sound, lt-leb mostFacts (w .count) few, ← is-n, le-ltb 0 n k, is)
+
+-- is it settled?
+module _ (w : Writing) where
+  pub settled-fault : 0 < w .fault → ltb 0 (w .fault) ≡ settled w
+  settled-fault h = rw (lt-ltb 0 (w .fault) h)
+
+  pub settled-short : w .fault ≤ 0 → w .short ≡ settled w
+  settled-short h = rw (le-ltb 0 (w .fault) h)
+
+-- is there room?
+same-test : (t u : Bool) → (t ≡ true → u ≡ true) → (u ≡ true → t ≡ true) → t ≡ u
+same-test true u to from = sym (to refl)
+same-test false true to from = from refl
+same-test false false to from = refl
+
+module _ (room at size : ℕ) where
+  pub room-before : room < at → false ≡ leb (at + size) room
+  room-before h = rw (lt-leb (at + size) room (omega arith))
+
+  pub room-after : at ≤ room → leb size (room - at) ≡ leb (at + size) room
+  room-after h =
+      same-test (leb size (room - at)) (leb (at + size) room)
+      (λ t. le-leb (at + size) room (omega (arith, leb-true size (room - at) t)))
+      (λ t. le-leb size (room - at) (omega (arith, leb-true (at + size) room t)))
+
+-- a record without a fault has numbers with forms
+record Formed (f : Fact) : Type 0 where
+  predicate : f .predicate ≤ threeBytes
+  subject : f .subject ≤ threeBytes
+  object : f .object ≤ threeBytes
+
+formed-record : (h : Head) (last : Last) (f : Fact) → ltb 0 (faultOf h last f) ≡ false → Formed f
+unfolding faultOf recordFault
+formed-record h last f e =
+    picked (λ n. ltb 0 n ≡ false → Formed f) _ _ (leb (f .predicate) mostNumber)
+    (λ p.
+    picked (λ n. ltb 0 n ≡ false → Formed f) _ _ (not (predicateKnown h (f .predicate))) (λ k z. absurd (true≢false z))
+    (λ k.
+    picked (λ n. ltb 0 n ≡ false → Formed f) _ _ (ofConcept f && not (eqb (f .object) 0)) (λ l z. absurd (true≢false z))
+    (λ l.
+    picked (λ n. ltb 0 n ≡ false → Formed f) _ _ (not (leb (f .subject) mostThing)) (λ a z. absurd (true≢false z))
+    (λ a.
+    picked (λ n. ltb 0 n ≡ false → Formed f) _ _ (not (leb (f .object) mostThing)) (λ o z. absurd (true≢false z))
+    (λ o z.
+    record {
+      predicate = omega (arith, leb-true (f .predicate) mostNumber p);
+      subject = omega (arith, leb-true (f .subject) mostThing (not-false (leb (f .subject) mostThing) a));
+      object = omega (arith, leb-true (f .object) mostThing (not-false (leb (f .object) mostThing) o));
+    })))))
+    (λ p z. absurd (true≢false z))
+    e
+
+abbrev FormedUnless : Fact → Writing → Type 0
+FormedUnless f w = ltb 0 (w .fault) ≡ false → Formed f
+
+formed-judged : (h : Head) (w : Writing) (f : Fact) → ltb 0 (judged h w f .fault) ≡ false → Formed f
+unfolding judged
+formed-judged h w f e =
+    picked (FormedUnless f) _ _ (ltb 0 (w .fault)) (λ k z. absurd (true≢false (sym k ∙ z)))
+    (λ k.
+    picked (FormedUnless f) _ _ (leb mostFacts (w .count)) (λ l z. absurd (true≢false z))
+    (λ l.
+    picked (FormedUnless f) _ _ (ltb 0 (faultOf h (lastOf (w .before)) f)) (λ m z. absurd (true≢false (sym m ∙ z)))
+    (λ m z. formed-record h (lastOf (w .before)) f m)))
+    e
+
+-- one more record
+or-left : (a b : Bool) → (a || b) ≡ false → a ≡ false
+or-left true b e = absurd (true≢false e)
+or-left false b e = refl
+
+module _ (h : Head) (out : List ℕ) (w : Writing) (f : Fact) (x : Writing) (is-x : x ≡ judged h w f) (t : Bool) (is-t : t ≡ settled x) where
+  settles : settled (judged h w f) ≡ t
+  settles = rw (← is-x) (sym is-t)
+
+  pub push-settled : t ≡ true → Pushes h out w f x out
+  unfolding placed storedBy
+  push-settled e = record { state = rw (settles, e) is-x; memory = rw (settles, e) }
+
+  module _ (open-yet : t ≡ false) (size : ℕ) (is-size : size ≡ length (factBytes f)) (u : Bool) (is-u : u ≡ leb (x .at + size) (length out)) where
+    fits-so : leb (judged h w f .at + length (factBytes f)) (length out) ≡ u
+    fits-so = rw (← is-x, ← is-size) (sym is-u)
+
+    pub push-short : not u ≡ true → (r : Writing) → r ≡ shortened x → Pushes h out w f r out
+    unfolding placed storedBy
+    push-short e r is =
+        let k : u ≡ false = not-true u e in
+        record { state = rw (settles, open-yet, fits-so, k, ← is-x) is; memory = rw (settles, open-yet, fits-so, k) }
+
+    module _ (fits : not u ≡ false) where
+      pub push-fits : StoresFact out (x .at) f
+      push-fits =
+          let formed = formed-judged h w f (or-left _ _ (settles ∙ open-yet)) in
+          record {
+            predicate-formed = formed .predicate;
+            subject-formed = formed .subject;
+            object-formed = formed .object;
+            room = leb-true (x .at + length (factBytes f)) (length out) (rw (← is-size, ← is-u) (not-false u fits));
+          }
+
+      pub push-sum : length out < 2 ^ 64 → Fits w64 (x .at + size)
+      push-sum small = record { fits = omega (arith, leb-true (x .at + size) (length out) (sym is-u ∙ not-false u fits)) }
+
+      pub push-stored : x .storing ≡ true → (p : ℕ) (out′ : List ℕ) → StoredFact out (x .at) f p out′ → (r : Writing) → r ≡ movedTo x p → Pushes h out w f r out′
+      unfolding placed storedBy
+      push-stored e p out′ st r is =
+          let k : u ≡ true = not-false u fits in
+          record {
+            state = rw (settles, open-yet, fits-so, k, ← is-x) (is ∙ ap (movedTo x) (st .place));
+            memory = rw (settles, open-yet, fits-so, k, ← is-x, e) (st .memory);
+          }
+
+      pub push-measured : x .storing ≡ false → (r : Writing) → r ≡ movedTo x (x .at + size) → Pushes h out w f r out
+      unfolding placed storedBy
+      push-measured e r is =
+          let k : u ≡ true = not-false u fits in
+          record { state = rw (settles, open-yet, fits-so, k, ← is-x, ← is-size) is; memory = rw (settles, open-yet, fits-so, k, ← is-x, e) }
+
+pub ruleset storing = (two-fit, three-fit, concept-size, role-size, put-next, put-refused, first-fits, second-fits, concept-stored, third-fits, role-stored, no-stray, maybe-stray, fault-over, fault-unknown, fault-object, fault-subject, fault-thing, no-fault, fault-order, starts, judged-before, judged-full, judged-fault, judged-counted, settled-fault, settled-short, room-before, room-after, push-settled, push-short, push-fits, push-sum, push-stored, push-measured, needs)
