@@ -1,1 +1,4 @@
 pub mod Answers
+pub mod Calling
+pub mod Closing
+pub mod Names
