@@ -1,4 +1,6 @@
 pub mod Answers
 pub mod Calling
 pub mod Closing
+pub mod Filling
+pub mod Locals
 pub mod Names

@@ -9,12 +9,14 @@ use Rattle.number.specs.Answer.Answer.{gives, refuses}
 use Rattle.bundle.specs.declared.facts.Facts.{Facts}
 use Rattle.records.specs.Reading.{Found, Stepped, readerStep}
 use Rattle.records.specs.Reading.Found.{fact, done}
+use Rattle.records.specs.Rows.{handRecords, rowAfter}
 use Rattle.records.specs.declared.step.Started.{Started}
 use Rattle.records.specs.declared.step.Started.the-variants.{At, Refused as RefusedStart}
 use Rattle.records.specs.declared.step.Yield.{Yield}
 use Rattle.records.specs.declared.step.Yield.the-variants.{Fact, Refused as RefusedYield, Done}
 use Rattle.records.specs.declared.step.Step.{Step}
 use Rattle.records.specs.declared.reader.Reader.{Reader}
+use Rattle.records.specs.declared.record.Record.{Record}
 use Rattle.records.specs.declared.hand.Handed.{Handed}
 use Rattle.records.specs.declared.hand.Hand.{Hand}
 
@@ -47,3 +49,8 @@ handed (refuses r) = record { number = r .number; side = r .side; place = r .pla
 abbrev pub decided : Answer Facts → Hand
 decided (gives b) = record { count = b .count; start = b .start; handed = handed (gives (b .count)) }
 decided (refuses r) = record { count = 0; start = 0; handed = handed (refuses r) }
+
+-- handing the facts out: the answer, and the lent row afterwards
+pub record Hands (rules bundle : List ℕ) (row : List Record) (r : Handed) (row′ : List Record) : Type 0 where
+  pub answer : r ≡ handed (over length (handRecords rules bundle (length row)))
+  pub memory : row′ ≡ rowAfter row (handRecords rules bundle (length row))

@@ -2,7 +2,7 @@
 ghost use mathlib.Core.Path.{_≡_};
 ghost use Rattle.records.specs.Rows.{handOut, takeAt};
 ghost use Rattle.number.specs.Answer.Answer.{refuses};
-ghost use Rattle.records.specs.Told.{decided};
+ghost use Rattle.records.specs.Told.{decided, Hands};
 use crate::record::Record;
 use bundle::BundleRead;
 use bundle::FactRead;
@@ -99,4 +99,21 @@ pub fn take_at(bundle: &[u8], at: usize) -> Taken
             next: at,
         },
     }
+}
+
+// "The console receives the facts as a lent row of fact records".
+pub fn hand_records(rules: &[u8], bundle: &[u8], row: &mut [Record]) -> Handed
+    ensures { λ r. ⌜ Hands (now (rules .entry)) (now (bundle .entry)) (now (row .entry)) r (now (row .exit)) ⌝ }
+{
+    let hand = decide(rules, bundle, row.len());
+    let count = hand.count;
+    let mut at = hand.start;
+    let mut i = 0;
+    while i < count {
+        let taken = take_at(bundle, at);
+        row[i] = taken.slot;
+        at = taken.next;
+        i += 1;
+    }
+    hand.handed
 }

@@ -8,6 +8,7 @@ pub use hand::Hand;
 pub use hand::Handed;
 pub use hand::Taken;
 pub use hand::decide;
+pub use hand::hand_records;
 pub use hand::take_at;
 pub use reader::Reader;
 pub use reader::next;
