@@ -4,3 +4,5 @@ pub mod Closing
 pub mod Filling
 pub mod Locals
 pub mod Names
+pub mod OfReader
+pub mod OfRows

@@ -1,7 +1,7 @@
 -- The fact reader: where it starts, and what one step yields from any place whatever.
-use Prim.Native.Nat.{ℕ}
+use Prim.Native.Nat.{ℕ, zero, suc}
 use mathlib.Core.Bool.{Bool, true, cond}
-use mathlib.Core.List.{List}
+use mathlib.Core.List.{List, [], _∷_}
 use lib.ListN.{length}
 use lib.Dec.{ltb}
 use Rattle.number.specs.Answer.{Answer, Read, refusal, _then_, over}
@@ -33,3 +33,8 @@ goesOn at (refuses r) = record { yields = refuses r; next = at }
 -- "At or past the end it is done, and stays done"; "there a predicate from 64 on has an object"
 unfoldable pub readerStep : List ℕ → ℕ → Stepped
 readerStep bundle at = cond (ltb at (length bundle)) (goesOn at (factAt (λ _. true) bundle at)) (record { yields = gives done; next = at })
+
+-- what a reader yields in so many steps from a place on: it "yields one fact at a time"
+unfoldable pub yieldsFrom : List ℕ → ℕ → ℕ → List (Answer Found)
+yieldsFrom bundle zero at = []
+yieldsFrom bundle (suc n) at = readerStep bundle at .yields ∷ yieldsFrom bundle n (readerStep bundle at .next)

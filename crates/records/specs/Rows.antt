@@ -9,6 +9,7 @@ use Rattle.number.specs.Answer.Answer.{gives, refuses}
 use Rattle.site.specs.declared.fact.Fact.{Fact}
 use Rattle.rules.specs.RuleFile.{checkRules}
 use Rattle.bundle.specs.Bundle.{factAt, checkBundle, factsOf}
+use Rattle.bundle.specs.Records.{planRecords}
 use Rattle.bundle.specs.declared.facts.Facts.{Facts}
 use Rattle.records.specs.declared.record.Record.{Record}
 use Rattle.records.specs.declared.hand.Taken.{Taken}
@@ -41,3 +42,7 @@ takenOf at (refuses r) = record { slot = record { predicate = 0; subject = 0; ob
 
 unfoldable pub takeAt : List ℕ → ℕ → Taken
 takeAt bundle at = takenOf at (factAt (λ _. true) bundle at)
+
+-- "and hands such a row back to be written": refusals of the rules, of the records, then 9; or the bundle's bytes
+unfoldable pub writeRow : List ℕ → ℕ → List Record → Answer (List ℕ)
+writeRow rules room row = checkRules rules then λ h. planRecords h room (map factOf row)
