@@ -1,29 +1,27 @@
 -- What an accepted bundle is: lawful facts, as many as its count says, from its start to the end of its bytes; and where a refused one refuses.
-use Prim.Native.Nat.{ℕ, zero, suc, _+_, _*_, _≤_, _<_}
-use mathlib.Core.Path.{_≡_, refl, sym, ap, _∙_}
+use Prim.Native.Nat.{ℕ, _≤_, _<_}
+use mathlib.Core.Path.{_≡_, refl, _∙_}
 use mathlib.Core.Bool.{Bool, true, false, cond}
-use mathlib.Core.List.{List, [], _∷_}
-use lib.ListN.{length}
+use mathlib.Core.List.{List}
+use lib.ListN.{length, getD}
 use lib.Dec.{ltb, leb}
 use native.Mathlib.Omega.{arith}
-use borrow.Author.Tests.{leb-true, ltb-true, ltb-false}
+use borrow.Author.Tests.{leb-true, ltb-false}
 use Rattle.number.specs.Answer.{Answer, Read, refusal, _then_}
 use Rattle.number.specs.Answer.Answer.{gives, refuses}
 use Rattle.number.specs.Number.{numberAt}
-use Rattle.number.specs.declared.refusal.Refusal.{Refusal}
-use Rattle.number.proofs.Laws.{Bounds, bounds, RefusedHow, refused-how}
+use Rattle.number.proofs.Laws.{bounds}
 use Rattle.site.specs.declared.fact.Fact.{Fact}
-use Rattle.site.specs.Items.{countAt, codeAt, endAt}
+use Rattle.site.specs.Items.{countAt, endAt}
 use Rattle.site.specs.Kinds.{ofConcept}
 use Rattle.site.specs.Limits.{mostFacts, mostNumber, mostThing}
 use Rattle.rules.specs.declared.head.Head.{Head}
-use Rattle.bundle.specs.Bundle.{Last, factAt, ascends, factsFrom, factsIn, factsOf, predicateKnown, checkBundle}
-use Rattle.bundle.specs.Bundle.Last.{none, after}
+use Rattle.bundle.specs.Bundle.{Last, factsFrom, factsOf, predicateKnown, checkBundle}
+use Rattle.bundle.specs.Bundle.Last.{none}
 use Rattle.bundle.specs.Lawful.{LawfulFact, LawfulFrom, LawfulFacts}
 use Rattle.bundle.specs.Lawful.LawfulFrom.{done, next}
-use Rattle.bundle.specs.Told.{factRest}
 use Rattle.bundle.specs.declared.facts.Facts.{Facts}
-use Rattle.bundle.proofs.Runs.{never, same-given, Passed, passed, Went, went, CodeThere, code-there, ObjectThere, FactThere, fact-there, fact-by-rest, Run, WalkThere, walk-there}
+use Rattle.bundle.proofs.Runs.{never, same-given, passed, went, ObjectThere, FactThere, Run, walk-there, any-run, FactNumbered, run-numbered}
 use Rattle.bundle.proofs.Runs.ObjectThere.{of-concept, of-role}
 use Rattle.bundle.proofs.Runs.Run.{stop, more}
 
@@ -111,3 +109,10 @@ module _ (h : Head) (s : List ℕ) (b : Facts) (e : checkBundle h s ≡ gives b)
 
   pub accepted-count : length (factsOf s b) ≡ b .count
   accepted-count = bundle-there .count
+
+  -- a later pass that takes any predicate reads every one of them, and never refuses
+  pub accepted-pass : Run (λ _. true) s none (factsOf s b) (b .start) (bundle-there .end)
+  accepted-pass = any-run (predicateKnown h) s (bundle-there .run)
+
+  pub accepted-numbered : (k : ℕ) (d : Fact) → k < b .count → FactNumbered s (getD (factsOf s b) k d)
+  accepted-numbered k d few = run-numbered (bundle-there .run) k d (omega (arith, bundle-there .count))

@@ -1,5 +1,7 @@
 pub mod Accepted
+pub mod Cases
 pub mod Longest
+pub mod OneAnswer
 pub mod Pushing
 pub mod Reading
 pub mod Refusals
@@ -7,3 +9,4 @@ pub mod Rewriting
 pub mod RoundTrips
 pub mod Runs
 pub mod Storing
+pub mod SubLawful

@@ -3,31 +3,30 @@
 use Prim.Native.Nat.{ℕ, zero, suc, _+_, _-_, _*_, _≤_, _<_}
 use mathlib.Core.Path.{_≡_, refl, sym, ap, _∙_}
 use mathlib.Core.Bool.{Bool, true, false, cond}
-use mathlib.Core.List.{List, [], _∷_}
+use mathlib.Core.List.{List}
 use lib.ListN.{length, take, drop}
 use lib.Seq.{take-take, take-add, drop-at, length-take-le}
-use lib.Dec.{ltb, leb}
+use lib.Dec.{ltb}
 use native.Mathlib.Omega.{arith}
 use borrow.Author.Tests.{lt-ltb, ltb-true, ltb-false}
-use Rattle.number.specs.Answer.{Answer, Read, refusal, _then_}
+use Rattle.number.specs.Answer.{Answer, Read, _then_}
 use Rattle.number.specs.Answer.Answer.{gives, refuses}
 use Rattle.number.specs.Number.{numberAt, bytesOf}
-use Rattle.number.specs.declared.refusal.Refusal.{Refusal}
-use Rattle.number.proofs.Laws.{Bytes, Bounds, bounds, OneForm, one-form, from-three-bytes}
+use Rattle.number.proofs.Laws.{Bytes, bounds, one-form, from-three-bytes}
 use Rattle.number.proofs.Writing.{by-form, size-1}
 use Rattle.site.specs.declared.fact.Fact.{Fact}
 use Rattle.site.specs.Codes.{predicateDeclared}
 use Rattle.site.specs.Items.{countAt, codeAt, endAt}
 use Rattle.site.specs.Limits.{mostFacts, mostNumber, mostRoles, mostThing}
 use Rattle.rules.specs.declared.head.Head.{Head}
-use Rattle.bundle.specs.Bundle.{Last, factAt, ascends, factsFrom, predicateKnown, checkBundle}
+use Rattle.bundle.specs.Bundle.{Last, factAt, factsFrom, predicateKnown, checkBundle}
 use Rattle.bundle.specs.Bundle.Last.{none, after}
 use Rattle.bundle.specs.Told.{factRest}
 use Rattle.bundle.specs.declared.facts.Facts.{Facts}
-use Rattle.bundle.proofs.Runs.{code-there, ObjectThere, FactThere, fact-there, fact-by-rest, Run, WalkThere, walk-there}
+use Rattle.bundle.proofs.Runs.{code-there, ObjectThere, FactThere, fact-there, fact-by-rest, Run, walk-there}
 use Rattle.bundle.proofs.Runs.ObjectThere.{of-concept, of-role}
 use Rattle.bundle.proofs.Runs.Run.{stop, more}
-use Rattle.bundle.proofs.Accepted.{count-there, BundleThere, bundle-there}
+use Rattle.bundle.proofs.Accepted.{count-there, bundle-there}
 
 -- "no valid file is over 28,674 bytes"
 abbrev pub longest : ℕ

@@ -1,33 +1,29 @@
 -- What pushing facts one after the other comes to: the first fault is that of `recordsFrom`, the room is too short exactly if the bytes are longer,
 -- and in the pass that stores the memory holds the facts' bytes. Each by the facts in order.
-use Prim.Native.Nat.{ℕ, zero, suc, _+_, _-_, _≤_, _<_}
+use Prim.Native.Nat.{ℕ, zero, suc, _+_, _≤_, _<_}
 use mathlib.Core.Path.{_≡_, refl, sym, ap, _∙_}
-use mathlib.Core.Bool.{Bool, true, false, cond, _&&_, _||_, not, true≢false}
-use mathlib.Core.List.{List, [], _∷_, _++_}
+use mathlib.Core.Bool.{Bool, true, false, cond, _||_, true≢false}
+use mathlib.Core.List.{List, [], _∷_}
 use lib.ListN.{length, length-append}
 use lib.Seq.{sets, length-sets}
-use lib.Dec.{ltb, leb, eqb}
+use lib.Dec.{ltb, leb}
 use native.Mathlib.Omega.{arith}
-use borrow.Author.Tests.{lt-ltb, le-ltb, le-leb, lt-leb, leb-true, leb-false, ltb-true, ltb-false, eq-eqb, ne-eqb, eqb-true}
-use Rattle.number.specs.Answer.{Answer, refusal, _then_}
+use borrow.Author.Tests.{lt-ltb, le-ltb, le-leb, lt-leb, leb-true, leb-false, ltb-true, ltb-false, ne-eqb}
+use Rattle.number.specs.Answer.{Answer, refusal, _then_, over, laid}
 use Rattle.number.specs.Answer.Answer.{gives, refuses}
 use Rattle.number.specs.Number.{bytesOf}
-use Rattle.number.proofs.Laws.{Bounds, bounds}
 use Rattle.number.proofs.Writing.{picked}
 use Rattle.site.specs.declared.fact.Fact.{Fact}
-use Rattle.site.specs.Kinds.{ofConcept}
-use Rattle.site.specs.Limits.{mostFacts, mostNumber, mostRoles, mostThing}
+use Rattle.site.specs.Limits.{mostFacts, mostNumber, mostRoles}
 use Rattle.site.specs.Lists.{each}
 use Rattle.rules.specs.declared.head.Head.{Head}
-use Rattle.bundle.specs.Bundle.{Last, ascends, factBytes, predicateKnown, bundleOf}
+use Rattle.bundle.specs.Bundle.{Last, factBytes, predicateKnown, bundleOf}
 use Rattle.bundle.specs.Bundle.Last.{none, after}
-use Rattle.bundle.specs.Lawful.{LawfulFact, LawfulFrom, LawfulFacts}
-use Rattle.bundle.specs.Lawful.LawfulFrom.{done, next}
 use Rattle.bundle.specs.Records.{roomFor, recordFault, recordsFrom, planRecords}
-use Rattle.bundle.specs.Told.{lastOf, beforeFirst, afterFact}
-use Rattle.bundle.specs.Pushed.{started, faultOf, stopped, counted, judged, settled, shortened, movedTo, placed, storedBy, stateAfter, memoryAfter}
+use Rattle.bundle.specs.Told.{lastOf, afterFact}
+use Rattle.bundle.specs.Pushed.{started, overfull, startOf, faultOf, stopped, counted, judged, settled, shortened, movedTo, placed, storedBy, stateAfter, memoryAfter, secondStart, countStored, answerOf, firstState, lastState, lastMemory}
 use Rattle.bundle.specs.declared.writing.Writing.{Writing}
-use Rattle.bundle.proofs.Longest.{declared-low, then-same}
+use Rattle.bundle.proofs.Longest.{declared-low}
 use Rattle.bundle.proofs.Reading.{before-first}
 use Rattle.bundle.proofs.Runs.{never}
 use Rattle.bundle.proofs.Storing.{sets-append}
@@ -119,12 +115,12 @@ module _ (h : Head) (last : Last) (k : ℕ) (f : Fact) (fs : List Fact) where
   records-stop n e p = rw (e, ne-eqb n 0 (omega arith))
 
 -- the answer of a pass: its refusal, or how many records there were
-abbrev pub answerOf : Writing → Answer ℕ
-answerOf w = cond (ltb 0 (w .fault)) (refuses (refusal (w .fault) 2 (w .place))) (gives (w .count))
+abbrev pub judgedOf : Writing → Answer ℕ
+judgedOf w = cond (ltb 0 (w .fault)) (refuses (refusal (w .fault) 2 (w .place))) (gives (w .count))
 
 module _ (h : Head) (few : h .roles ≤ mostRoles) (room : ℕ) where
   abbrev Judges : Last → ℕ → List Fact → Writing → Type 0
-  Judges last k fs w = recordsFrom h last k fs ≡ answerOf (stateAfter h room w fs)
+  Judges last k fs w = recordsFrom h last k fs ≡ judgedOf (stateAfter h room w fs)
 
   one-judged : (w : Writing) (f : Fact) (fs : List Fact) (n : ℕ) → recordFault h (lastOf (w .before)) f ≡ n → w .fault ≡ 0 → w .count < mostFacts
       → ((w′ : Writing) → w′ .fault ≡ 0 → w′ .count ≡ w .count + 1 → lastOf (w′ .before) ≡ after f → Judges (after f) (w .count + 1) fs w′)
@@ -134,16 +130,16 @@ module _ (h : Head) (few : h .roles ≤ mostRoles) (room : ℕ) where
       let same = placed-judging h room (counted w f) f in
       records-next h (lastOf (w .before)) (w .count) f fs e
       ∙ rest (placed room (counted w f) f) (same .fault) (same .count) (ap lastOf (same .before) ∙ after-fact f)
-      ∙ ap answerOf (sym (state-counted h room w f fs counts))
+      ∙ ap judgedOf (sym (state-counted h room w f fs counts))
   one-judged w f fs (suc n) e z k rest =
       let p : 0 < suc n = omega arith in
       let stops : judged h w f ≡ stopped w (suc n) (w .count) = judged-faulty h room w f (suc n) z k (same-fault h few (lastOf (w .before)) f ∙ e) p in
-      let told : answerOf (stopped w (suc n) (w .count)) ≡ refuses (refusal (suc n) 2 (w .count)) = rw (lt-ltb 0 (suc n) p) in
-      records-stop h (lastOf (w .before)) (w .count) f fs (suc n) e p ∙ sym told ∙ ap answerOf (sym (state-stopped h room w f fs (suc n) stops p))
+      let told : judgedOf (stopped w (suc n) (w .count)) ≡ refuses (refusal (suc n) 2 (w .count)) = rw (lt-ltb 0 (suc n) p) in
+      records-stop h (lastOf (w .before)) (w .count) f fs (suc n) e p ∙ sym told ∙ ap judgedOf (sym (state-stopped h room w f fs (suc n) stops p))
 
   -- a pass judges as `recordsFrom`
   pub pass-judges : (w : Writing) (fs : List Fact) → w .fault ≡ 0 → w .count + length fs ≤ mostFacts
-      → recordsFrom h (lastOf (w .before)) (w .count) fs ≡ answerOf (stateAfter h room w fs)
+      → recordsFrom h (lastOf (w .before)) (w .count) fs ≡ judgedOf (stateAfter h room w fs)
   unfolding recordsFrom stateAfter
   pass-judges w [] z k = rw z
   pass-judges w (f ∷ fs) z k =
@@ -356,23 +352,167 @@ module _ (h : Head) (facts : List Fact) (sound-facts : Sound h none facts) (few-
       pass-stores h sound-facts (sets out 0 n) (started (length facts) (length out) true) before-first refl (omega arith) (le-ltb (length out) (length n) (omega arith)) refl (omega arith)
       ∙ sym (sets-append n (each factBytes facts) out 0 ∙ ap (λ p. sets (sets out 0 n) p (each factBytes facts)) zero-at)
 
--- records: the answer of the first pass is document 01's
-module _ (h : Head) (few : h .roles ≤ mostRoles) (room : ℕ) (records : List Fact) (few-records : length records ≤ mostFacts) where
-  abbrev pub firstPass : Writing
-  firstPass = stateAfter h room (started (length records) room false) records
+-- the starts
+module _ (facts room : ℕ) (storing : Bool) where
+  pub start-within : facts ≤ mostFacts → startOf facts room storing ≡ started facts room storing
+  unfolding startOf
+  start-within k = rw (le-leb facts mostFacts k)
 
-  judged-all : recordsFrom h none 0 records ≡ answerOf firstPass
-  judged-all = ap (λ l. recordsFrom h l 0 records) (sym before-first) ∙ pass-judges h few room (started (length records) room false) records refl (omega arith)
+  start-beyond : mostFacts < facts → startOf facts room storing ≡ overfull storing
+  unfolding startOf
+  start-beyond k = rw (lt-leb facts mostFacts k)
 
-  pub plan-of-pass : planRecords h room records ≡ (answerOf firstPass then λ _. cond (firstPass .short) (refuses (refusal 9 2 0)) (gives (bundleOf records)))
-  unfolding planRecords roomFor
-  plan-of-pass =
-      rw (le-leb (length records) mostFacts few-records)
-      (then-same (recordsFrom h none 0 records) _ _
-      (λ k e. by-room (length (bundleOf records)) (firstPass .short) (measures-all h room records (sound-records h few none 0 k records e) few-records false))
-      ∙ ap (λ a. a then λ _. cond (firstPass .short) (refuses (refusal 9 2 0)) (gives (bundleOf records))) judged-all)
-    where
-      by-room : (n : ℕ) (t : Bool) → t ≡ ltb room n
-          → _≡_ {A = Answer (List ℕ)} (cond (leb n room) (gives (bundleOf records)) (refuses (refusal 9 2 0))) (cond t (refuses (refusal 9 2 0)) (gives (bundleOf records)))
-      by-room n true is = rw (lt-leb n room (ltb-true room n (sym is)))
-      by-room n false is = rw (le-leb n room (ltb-false room n (sym is)))
+pub start-storing : (facts room : ℕ) (storing : Bool) → startOf facts room storing .storing ≡ storing
+unfolding startOf
+start-storing facts room storing = picked (λ (w : Writing). w .storing ≡ storing) _ _ (leb facts mostFacts) (λ t. refl) (λ t. refl)
+
+-- a writing that has stopped stores nothing
+module _ (h : Head) where
+  stored-stays : (out : List ℕ) (w : Writing) (f : Fact) → ltb 0 (w .fault) ≡ true → storedBy out w f ≡ out
+  unfolding storedBy
+  stored-stays out w f k = rw k
+
+  memory-stays : (out : List ℕ) (w : Writing) (fs : List Fact) → ltb 0 (w .fault) ≡ true → memoryAfter h out w fs ≡ out
+  unfolding memoryAfter
+  memory-stays out w [] k = refl
+  memory-stays out w (f ∷ fs) k =
+      memory-next h out w f fs
+      ∙ ap (λ x. memoryAfter h (storedBy out x f) (placed (length out) x f) fs) (judged-stays h (length out) w f k)
+      ∙ ap (λ l. memoryAfter h l (placed (length out) w f) fs) (stored-stays out w f k)
+      ∙ ap (λ x. memoryAfter h out x fs) (placed-stays h (length out) w f k)
+      ∙ memory-stays out w fs k
+
+-- both passes over some facts, as a plan of what is written
+pub record TwoPasses (h : Head) (out : List ℕ) (facts : List Fact) (plan : Answer (List ℕ)) : Type 0 where
+  pub answer : answerOf (lastState h (length out) facts) ≡ over length plan
+  pub memory : lastMemory h out facts ≡ laid out 0 plan
+
+module _ (first : Writing) (facts : ℕ) (out : List ℕ) where
+  second-fault : ltb 0 (first .fault) ≡ true → secondStart facts (length out) first ≡ first
+  unfolding secondStart
+  second-fault k = rw k
+
+  second-short : first .fault ≡ 0 → first .short ≡ true → secondStart facts (length out) first ≡ stopped first 9 0
+  unfolding secondStart
+  second-short z s = rw (z, s)
+
+  second-on : settled first ≡ false → secondStart facts (length out) first ≡ startOf facts (length out) true
+  unfolding secondStart
+  second-on k = rw k
+
+  not-counted : settled first ≡ true → countStored out facts first ≡ out
+  unfolding countStored
+  not-counted k = rw k
+
+  is-counted : settled first ≡ false → settled (startOf facts (length out) true) ≡ false → countStored out facts first ≡ sets out 0 (bytesOf facts)
+  unfolding countStored
+  is-counted k l = rw (k, l)
+
+module _ (h : Head) (out : List ℕ) (facts : List Fact) where
+  abbrev First : Writing
+  First = firstState h (length out) facts
+
+  -- the second pass after a refusal
+  passes-stopped : (x : Writing) → secondStart (length facts) (length out) First ≡ x → settled First ≡ true → ltb 0 (x .fault) ≡ true
+      → TwoPasses h out facts (refuses (refusal (x .fault) 2 (x .place)))
+  passes-stopped x is s k =
+      let told : answerOf x ≡ refuses (refusal (x .fault) 2 (x .place)) = rw k in
+      record {
+        answer = ap (λ y. answerOf (stateAfter h (length out) y facts)) is ∙ ap answerOf (stays h (length out) x facts k) ∙ told;
+        memory = ap (λ y. memoryAfter h (countStored out (length facts) First) y facts) is
+            ∙ ap (λ l. memoryAfter h l x facts) (not-counted First (length facts) out s) ∙ memory-stays h out x facts k;
+      }
+
+  module _ (fine : Sound h none facts) (few-facts : length facts ≤ mostFacts) where
+    first-within : First ≡ stateAfter h (length out) (started (length facts) (length out) false) facts
+    first-within = ap (λ w. stateAfter h (length out) w facts) (start-within (length facts) (length out) false few-facts)
+
+    first-sound : First .fault ≡ 0
+    first-sound = ap (λ w. w .fault) first-within ∙ passed-all h (length out) facts fine few-facts false .no-fault
+
+    first-short : First .short ≡ ltb (length out) (length (bundleOf facts))
+    first-short = ap (λ w. w .short) first-within ∙ measures-all h (length out) facts fine few-facts false
+
+    first-settled : settled First ≡ ltb (length out) (length (bundleOf facts))
+    first-settled = rw first-sound first-short
+
+    passes-room : (t : Bool) → ltb (length out) (length (bundleOf facts)) ≡ t → TwoPasses h out facts (roomFor (length out) (bundleOf facts))
+    unfolding roomFor
+    passes-room true is =
+        rw (lt-leb (length (bundleOf facts)) (length out) (ltb-true (length out) (length (bundleOf facts)) is))
+        (passes-stopped (stopped First 9 0) (second-short First (length facts) out first-sound (first-short ∙ is)) (first-settled ∙ is) refl)
+    passes-room false is =
+        let room : length (bundleOf facts) ≤ length out = ltb-false (length out) (length (bundleOf facts)) is in
+        let size = bundle-size facts in
+        let begins : startOf (length facts) (length out) true ≡ started (length facts) (length out) true = start-within (length facts) (length out) true few-facts in
+        let ready : settled (startOf (length facts) (length out) true) ≡ false = ap settled begins ∙ le-ltb (length out) (length (bytesOf (length facts))) (omega arith) in
+        let second : secondStart (length facts) (length out) First ≡ started (length facts) (length out) true =
+        second-on First (length facts) out (first-settled ∙ is) ∙ begins in
+        let counts : countStored out (length facts) First ≡ sets out 0 (bytesOf (length facts)) = is-counted First (length facts) out (first-settled ∙ is) ready in
+        rw (le-leb (length (bundleOf facts)) (length out) room)
+        (record {
+          answer = ap (λ y. answerOf (stateAfter h (length out) y facts)) second
+              ∙ told (stateAfter h (length out) (started (length facts) (length out) true) facts) (passed-all h (length out) facts fine few-facts true .no-fault)
+              ∙ ap gives (ends-all h (length out) facts fine few-facts true room);
+          memory = ap (λ y. memoryAfter h (countStored out (length facts) First) y facts) second
+              ∙ ap (λ l. memoryAfter h l (started (length facts) (length out) true) facts) counts ∙ stores-all h facts fine few-facts out room;
+        })
+      where
+        told : (w : Writing) → w .fault ≡ 0 → answerOf w ≡ gives (w .at)
+        told w z = ap (λ n. cond (ltb 0 n) (refuses (refusal n 2 (w .place))) (gives (w .at))) z
+
+    -- facts without a fault: the bundle where there is room for it, else refusal 9
+    pub two-passes : TwoPasses h out facts (roomFor (length out) (bundleOf facts))
+    two-passes = passes-room (ltb (length out) (length (bundleOf facts))) refl
+
+-- records: both passes come to document 01's plan
+module _ (h : Head) (few : h .roles ≤ mostRoles) (out : List ℕ) (records : List Fact) where
+  plan-beyond : mostFacts < length records → planRecords h (length out) records ≡ refuses (refusal 4 2 0)
+  unfolding planRecords
+  plan-beyond k = rw (lt-leb (length records) mostFacts k)
+
+  plan-within : length records ≤ mostFacts → planRecords h (length out) records ≡ (recordsFrom h none 0 records then λ _. roomFor (length out) (bundleOf records))
+  unfolding planRecords
+  plan-within k = rw (le-leb (length records) mostFacts k)
+
+  records-beyond : mostFacts < length records → TwoPasses h out records (planRecords h (length out) records)
+  records-beyond k =
+      let first : firstState h (length out) records ≡ overfull false =
+      ap (λ w. stateAfter h (length out) w records) (start-beyond (length records) (length out) false k) ∙ stays h (length out) (overfull false) records refl in
+      rw (plan-beyond k)
+      (passes-stopped h out records (overfull false)
+      (ap (secondStart (length records) (length out)) first ∙ second-fault (overfull false) (length records) out refl)
+      (ap settled first) refl)
+
+  module _ (k : length records ≤ mostFacts) where
+    judged-all : recordsFrom h none 0 records ≡ judgedOf (firstState h (length out) records)
+    judged-all =
+        ap (λ l. recordsFrom h l 0 records) (sym before-first)
+        ∙ pass-judges h few (length out) (started (length records) (length out) false) records refl (omega arith)
+        ∙ ap (λ w. judgedOf (stateAfter h (length out) w records)) (sym (start-within (length records) (length out) false k))
+
+    records-by : (first : Writing) → firstState h (length out) records ≡ first → (t : Bool) → ltb 0 (first .fault) ≡ t → TwoPasses h out records (planRecords h (length out) records)
+    records-by first is true f =
+        let stops : recordsFrom h none 0 records ≡ refuses (refusal (first .fault) 2 (first .place)) = judged-all ∙ ap judgedOf is ∙ judged-stop first f in
+        let settles : settled first ≡ true = or-yes (ltb 0 (first .fault)) (first .short) f in
+        rw (plan-within k, stops)
+        (passes-stopped h out records first
+        (ap (secondStart (length records) (length out)) is ∙ second-fault first (length records) out f) (ap settled is ∙ settles) f)
+      where
+        judged-stop : (w : Writing) → ltb 0 (w .fault) ≡ true → judgedOf w ≡ refuses (refusal (w .fault) 2 (w .place))
+        judged-stop w e = rw e
+    records-by first is false f =
+        let goes : recordsFrom h none 0 records ≡ gives (first .count) = judged-all ∙ ap judgedOf is ∙ judged-on first f in
+        rw (plan-within k, goes) (two-passes h out records (sound-records h few none 0 (first .count) records goes) k)
+      where
+        judged-on : (w : Writing) → ltb 0 (w .fault) ≡ false → judgedOf w ≡ gives (w .count)
+        judged-on w e = rw e
+
+  by-count : (t : Bool) → leb (length records) mostFacts ≡ t → TwoPasses h out records (planRecords h (length out) records)
+  by-count true is =
+      let k = leb-true (length records) mostFacts is in
+      records-by k (firstState h (length out) records) refl (ltb 0 (firstState h (length out) records .fault)) refl
+  by-count false is = records-beyond (leb-false (length records) mostFacts is)
+
+  pub two-passes-of-records : TwoPasses h out records (planRecords h (length out) records)
+  two-passes-of-records = by-count (leb (length records) mostFacts) refl

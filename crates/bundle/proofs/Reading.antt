@@ -1,5 +1,5 @@
 -- What the answers of the readers below say of a fact, a walk and a bundle: one law for each way out of the reading functions.
-use Prim.Native.Nat.{ℕ, zero, suc, _+_, _-_, _≤_, _<_}
+use Prim.Native.Nat.{ℕ, suc, _-_, _≤_, _<_}
 use mathlib.Core.Path.{_≡_, refl, sym, ap, _∙_}
 use mathlib.Core.Bool.{Bool, true, false, cond}
 use mathlib.Core.List.{List}
@@ -22,9 +22,9 @@ use Rattle.site.specs.Kinds.{below, ofConcept}
 use Rattle.site.specs.Limits.{mostFacts, mostThing}
 use Rattle.site.specs.Told.{endTold, endRefusal}
 use Rattle.rules.specs.declared.head.Head.{Head}
-use Rattle.bundle.specs.Bundle.{Last, factAt, ascends, factsFrom, predicateKnown, checkBundle}
+use Rattle.bundle.specs.Bundle.{factAt, ascends, factsFrom, predicateKnown, checkBundle}
 use Rattle.bundle.specs.Bundle.Last.{none, after}
-use Rattle.bundle.specs.Told.{factTold, factRefusal, stepTold, stepRefusal, bundleTold, bundleRefusal, factRest, lastOf, beforeFirst, afterFact, stepFrom}
+use Rattle.bundle.specs.Told.{factTold, factRefusal, stepTold, stepRefusal, bundleRefusal, factRest, lastOf, beforeFirst, afterFact, stepFrom}
 use Rattle.bundle.specs.declared.before.Before.{Before}
 use Rattle.bundle.specs.declared.facts.Facts.{Facts}
 use Rattle.bundle.specs.declared.one.FactRead.{FactRead}
@@ -33,7 +33,7 @@ use Rattle.bundle.specs.declared.walk.Walk.{Walk}
 use Rattle.bundle.specs.declared.walk.Step.{Step}
 use Rattle.bundle.specs.declared.walk.Step.the-variants.{On, Refused as RefusedStep}
 use Rattle.bundle.specs.declared.check.BundleRead.{BundleRead}
-use Rattle.bundle.specs.declared.check.BundleRead.the-variants.{Accepted, Refused as RefusedBundle}
+use Rattle.bundle.specs.declared.check.BundleRead.the-variants.{Accepted}
 
 -- what was read has no refusal
 pub fact-no-refusal : (a : FactRead) (f : Fact) (next : ℕ) → a ≡ ReadFact f next → refusal 0 0 0 ≡ factRefusal a

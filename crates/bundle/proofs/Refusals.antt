@@ -1,17 +1,16 @@
 -- Where a bundle's refusal stands: on side 1, at a place within the bytes or at their end. Said of every answer on the way, and put together as the reading is.
-use Prim.Native.Nat.{ℕ, zero, suc, _+_, _≤_, _<_}
-use mathlib.Core.Path.{_≡_, refl, sym, ap, _∙_}
-use mathlib.Core.Bool.{Bool, true, false, cond}
-use mathlib.Core.List.{List, [], _∷_}
+use Prim.Native.Nat.{ℕ, zero, suc, _≤_}
+use mathlib.Core.Path.{_≡_, refl, sym, ap}
+use mathlib.Core.Bool.{Bool, cond}
+use mathlib.Core.List.{List}
 use lib.ListN.{length}
 use lib.Dec.{ltb, leb}
 use native.Mathlib.Omega.{arith}
-use borrow.Author.Tests.{ltb-true}
 use Rattle.number.specs.Answer.{Answer, Read, refusal, _then_}
 use Rattle.number.specs.Answer.Answer.{gives, refuses}
 use Rattle.number.specs.Number.{numberAt}
 use Rattle.number.specs.declared.refusal.Refusal.{Refusal}
-use Rattle.number.proofs.Laws.{Bounds, bounds, RefusedHow, refused-how}
+use Rattle.number.proofs.Laws.{bounds, refused-how}
 use Rattle.number.proofs.Writing.{picked}
 use Rattle.site.specs.declared.fact.Fact.{Fact}
 use Rattle.site.specs.Items.{countAt, codeAt, endAt}
@@ -20,10 +19,10 @@ use Rattle.rules.specs.declared.head.Head.{Head}
 use Rattle.bundle.specs.Bundle.{Last, factAt, ascends, factsFrom, predicateKnown, checkBundle}
 use Rattle.bundle.specs.Bundle.Last.{none, after}
 use Rattle.bundle.specs.Told.{factRest}
-use Rattle.bundle.proofs.Runs.{never, same-given, code-there, ObjectThere, FactThere, fact-there, fact-by-rest, Run, WalkThere, walk-there}
+use Rattle.bundle.proofs.Runs.{never, code-there, ObjectThere, FactThere, fact-there, fact-by-rest, Run, walk-there}
 use Rattle.bundle.proofs.Runs.ObjectThere.{of-concept, of-role}
 use Rattle.bundle.proofs.Runs.Run.{stop, more}
-use Rattle.bundle.proofs.Accepted.{count-there, BundleThere}
+use Rattle.bundle.proofs.Accepted.{count-there}
 
 -- a refusal of the bundle, at one of its bytes or at their end
 pub record InBundle (s : List ℕ) (r : Refusal) : Type 0 where

@@ -1,31 +1,29 @@
 -- Writing an accepted bundle's facts: the loop's turns, the two passes put together, and the law that the same bytes come out.
-use Prim.Native.Nat.{ℕ, zero, suc, _+_, _-_, _≤_, _<_}
+use Prim.Native.Nat.{ℕ, suc, _+_, _-_, _≤_, _<_}
 use mathlib.Core.Path.{_≡_, refl, sym, ap, _∙_}
-use mathlib.Core.Bool.{Bool, true, false, cond, _&&_, not}
+use mathlib.Core.Bool.{Bool, true, false, _&&_, not}
 use mathlib.Core.List.{List, [], _∷_}
 use lib.ListN.{length}
-use lib.Seq.{sets, length-sets}
-use lib.Dec.{ltb, leb, eqb}
+use lib.Seq.{length-sets}
+use lib.Dec.{leb, eqb}
 use native.Mathlib.Omega.{arith}
-use borrow.Author.Tests.{lt-ltb, le-leb, lt-leb, ltb-true, ltb-false, eq-eqb}
+use borrow.Author.Tests.{le-leb, eq-eqb}
 use borrow.Author.Needs.{needs}
-use Rattle.number.specs.Answer.{Answer, Read, refusal, _then_, over, laid}
+use Rattle.number.specs.Answer.{Answer, _then_, over}
 use Rattle.number.specs.Answer.Answer.{gives, refuses}
-use Rattle.number.specs.Number.{bytesOf, threeBytes}
-use Rattle.number.specs.Told.{Stores, Stored}
+use Rattle.number.specs.Number.{bytesOf}
 use Rattle.number.specs.declared.refusal.Refusal.{Refusal}
-use Rattle.number.proofs.Laws.{Bytes, Bounds, bounds}
+use Rattle.number.proofs.Laws.{Bytes, bounds}
 use Rattle.number.proofs.Writing.{picked}
 use Rattle.site.specs.declared.fact.Fact.{Fact}
 use Rattle.site.specs.Kinds.{ofConcept}
-use Rattle.site.specs.Limits.{mostFacts, mostNumber, mostRoles, mostThing}
+use Rattle.site.specs.Limits.{mostNumber, mostRoles, mostThing}
 use Rattle.rules.specs.declared.head.Head.{Head}
-use Rattle.bundle.specs.Again.{planAgain, WritesAgain, PushesAll, Measures, StoresBundle}
+use Rattle.bundle.specs.Again.{planAgain, WritesAgain, PushesAll, FirstPass, SecondPass}
 use Rattle.bundle.specs.Bundle.{Last, factAt, ascends, factsIn, factsOf, predicateKnown, checkBundle, readBundle, factBytes, bundleOf}
-use Rattle.bundle.specs.Bundle.Last.{none}
-use Rattle.bundle.specs.Lawful.{LawfulFact, LawfulFrom, LawfulFacts}
+use Rattle.bundle.specs.Lawful.{LawfulFact, LawfulFrom}
 use Rattle.bundle.specs.Lawful.LawfulFrom.{done, next as one-more}
-use Rattle.bundle.specs.Pushed.{started, faultOf, judged, settled, placed, storedBy, Pushes, stateAfter, memoryAfter}
+use Rattle.bundle.specs.Pushed.{startOf, faultOf, judged, settled, placed, storedBy, Pushes, stateAfter, memoryAfter, secondStart, countStored, Begins, wroteTold, answerOf}
 use Rattle.bundle.specs.Records.{roomFor, recordFault}
 use Rattle.bundle.specs.Told.{factTold, bundleTold, bundleRefusal}
 use Rattle.bundle.specs.declared.facts.Facts.{Facts}
@@ -34,14 +32,14 @@ use Rattle.bundle.specs.declared.one.FactRead.the-variants.{Read as Read
 use Rattle.bundle.specs.declared.check.BundleRead.{BundleRead}
 use Rattle.bundle.specs.declared.check.BundleRead.the-variants.{Accepted, Refused as RefusedBundle}
 use Rattle.bundle.specs.declared.writing.Writing.{Writing}
-use Rattle.bundle.specs.declared.again.BundleWrote.{BundleWrote}
-use Rattle.bundle.specs.declared.again.BundleWrote.the-variants.{Written, Refused}
-use Rattle.bundle.proofs.Runs.{FactThere, Run}
+use Rattle.bundle.specs.declared.writing.BundleWrote.{BundleWrote}
+use Rattle.bundle.specs.declared.writing.BundleWrote.the-variants.{Refused}
+use Rattle.bundle.proofs.Runs.{Run}
 use Rattle.bundle.proofs.Runs.Run.{stop, more}
 use Rattle.bundle.proofs.Accepted.{lawful-fact, BundleThere, bundle-there}
 use Rattle.bundle.proofs.Longest.{declared-low}
 use Rattle.bundle.proofs.RoundTrips.{accepted-again}
-use Rattle.bundle.proofs.Pushing.{Sound, bundle-size, measures-all, ends-all, stores-all, pass-keeps}
+use Rattle.bundle.proofs.Pushing.{Sound, pass-keeps, start-storing, TwoPasses, two-passes}
 use Rattle.bundle.proofs.Pushing.Sound.{no-more, sound}
 
 -- lawful facts are pushed without a fault
@@ -117,6 +115,12 @@ length-stored out w f =
     (λ u. picked (AsLong out) _ _ (w .storing) (λ v. length-sets out (w .at) (factBytes f)) (λ v. refl))
     (λ u. refl))
 
+length-counted : (out : List ℕ) (n : ℕ) (first : Writing) → length (countStored out n first) ≡ length out
+unfolding countStored
+length-counted out n first =
+    picked (AsLong out) _ _ (settled first) (λ t. refl)
+    (λ t. picked (AsLong out) _ _ (settled (startOf n (length out) true)) (λ u. refl) (λ u. length-sets out 0 (bytesOf n)))
+
 state-on : (h : Head) (room : ℕ) (w : Writing) (f : Fact) (fs : List Fact) → stateAfter h room w (f ∷ fs) ≡ stateAfter h room (placed room (judged h w f) f) fs
 unfolding stateAfter
 state-on h room w f fs = refl
@@ -156,24 +160,25 @@ module _ (h : Head) (out₀ s : List ℕ) (w₀ : Writing) (b : Facts) (out : Li
 
 -- each pass from its start
 module _ (h : Head) (out s : List ℕ) (b : Facts) (w₀ : Writing) where
-  pub pass-measured : w₀ ≡ started (b .count) (length out) false → (w : Writing) (out′ : List ℕ) → PushesAll h out s b w₀ w out′ → Measures h out s b (w .short) out′
-  pass-measured is w out′ p =
+  pub pass-first : w₀ ≡ startOf (b .count) (length out) false → (w : Writing) (out′ : List ℕ) → PushesAll h out s b w₀ w out′ → FirstPass h out s b w out′
+  pass-first is w out′ p =
       record {
-        short = ap (λ x. x .short) (p .state ∙ ap (λ x. stateAfter h (length out) x (factsOf s b)) is);
-        memory = p .memory ∙ pass-keeps h out w₀ (factsOf s b) (ap (λ x. x .storing) is);
+        state = p .state ∙ ap (λ x. stateAfter h (length out) x (factsOf s b)) is;
+        memory = p .memory ∙ pass-keeps h out w₀ (factsOf s b) (ap (λ x. x .storing) is ∙ start-storing (b .count) (length out) false);
       }
 
-  module _ (is : w₀ ≡ started (b .count) (length out) true) (n : ℕ) (out₁ : List ℕ) (counted : Stored out 0 (b .count) n out₁) where
+  module _ (first : Writing) (out₁ : List ℕ) (begins : Begins out (b .count) first w₀ out₁) where
     as-long : length out₁ ≡ length out
-    as-long = ap length (counted .memory) ∙ length-sets out 0 (bytesOf (b .count))
+    as-long = ap length (begins .memory) ∙ length-counted out (b .count) first
 
-    pub pass-stored : (w : Writing) (out′ : List ℕ) → PushesAll h out₁ s b w₀ w out′ → StoresBundle h out s b (w .at) out′
-    pass-stored w out′ p =
+    pub pass-second : (w : Writing) (out′ : List ℕ) → PushesAll h out₁ s b w₀ w out′ → (r : BundleWrote) → wroteTold r ≡ answerOf w → SecondPass h out s b first r out′
+    pass-second w out′ p r told =
         record {
-          place = ap (λ x. x .at)
-              (p .state ∙ ap (λ r. stateAfter h r w₀ (factsOf s b)) as-long ∙ ap (λ x. stateAfter h (length out) x (factsOf s b)) is);
-          memory = p .memory ∙ ap (λ x. memoryAfter h out₁ x (factsOf s b)) is
-              ∙ ap (λ l. memoryAfter h l (started (b .count) (length out) true) (factsOf s b)) (counted .memory);
+          answer = told
+              ∙ ap answerOf
+              (p .state ∙ ap (λ n. stateAfter h n w₀ (factsOf s b)) as-long ∙ ap (λ x. stateAfter h (length out) x (factsOf s b)) (begins .state));
+          memory = p .memory ∙ ap (λ x. memoryAfter h out₁ x (factsOf s b)) (begins .state)
+              ∙ ap (λ l. memoryAfter h l (secondStart (b .count) (length out) first) (factsOf s b)) (begins .memory);
         }
 
 -- the two passes
@@ -191,60 +196,31 @@ module _ (h : Head) (s out : List ℕ) (got : BundleRead) (is : bundleTold got �
     there : BundleThere h s b
     there = bundle-there h s b accepted
 
-    few : length (factsOf s b) ≤ mostFacts
-    few = omega (arith, there .count, there .count-within)
-
-    fine : Sound h none (factsOf s b)
-    fine = run-sound h s (there .run)
-
     planned : planAgain h s (length out) ≡ roomFor (length out) (bundleOf (factsOf s b))
     unfolding planAgain readBundle
     planned = rw accepted
 
-    start-of : (storing : Bool) → started (b .count) (length out) storing ≡ started (length (factsOf s b)) (length out) storing
-    start-of storing = ap (λ n. started n (length out) storing) (sym (there .count))
+    both : TwoPasses h out (factsOf s b) (roomFor (length out) (bundleOf (factsOf s b)))
+    both = two-passes h out (factsOf s b) (run-sound h s (there .run)) (omega (arith, there .count, there .count-within))
 
-    module _ (t : Bool) (out₁ : List ℕ) (first : Measures h out s b t out₁) where
-      measured : t ≡ ltb (length out) (length (bundleOf (factsOf s b)))
-      measured =
-          first .short ∙ ap (λ x. stateAfter h (length out) x (factsOf s b) .short) (start-of false) ∙ measures-all h (length out) (factsOf s b) fine few false
+    -- the passes of the code are those over the facts that were read
+    passes : (n : ℕ) → n ≡ length (factsOf s b) → (r : BundleWrote) (out′ : List ℕ)
+        → wroteTold r ≡ answerOf (stateAfter h (length out) (secondStart n (length out) (stateAfter h (length out) (startOf n (length out) false) (factsOf s b))) (factsOf s b))
+        → out′ ≡ memoryAfter h (countStored out n (stateAfter h (length out) (startOf n (length out) false) (factsOf s b)))
+        (secondStart n (length out) (stateAfter h (length out) (startOf n (length out) false) (factsOf s b))) (factsOf s b)
+        → WritesAgain h s out r out′
+    passes n is-n r out′ told stored =
+        record { answer = rw planned ((rw is-n at told) ∙ both .answer); memory = rw planned ((rw is-n at stored) ∙ both .memory) }
 
-      pub again-short : t ≡ true → WritesAgain h s out (Refused (refusal 9 2 0)) out₁
-      unfolding roomFor
-      again-short e =
-          let over-room : leb (length (bundleOf (factsOf s b))) (length out) ≡ false = lt-leb _ (length out) (ltb-true (length out) _ (sym measured ∙ e)) in
-          let stops : planAgain h s (length out) ≡ refuses (refusal 9 2 0) = planned ∙ rw over-room in
-          record { answer = rw stops; memory = rw stops (first .memory) }
-
-      module _ (fits : t ≡ false) where
-        room : length (bundleOf (factsOf s b)) ≤ length out
-        room = ltb-false (length out) _ (sym measured ∙ fits)
-
-        gave : planAgain h s (length out) ≡ gives (bundleOf (factsOf s b))
-        unfolding roomFor
-        gave = planned ∙ rw (le-leb _ (length out) room)
-
-        pub again-fits : Stores out₁ 0 (b .count)
-        again-fits =
-            let n = ap (λ m. length (bytesOf m)) (there .count) in
-            record {
-              formed = omega (arith, there .count-within);
-              room = omega (arith, room, bundle-size (factsOf s b), n, ap length (first .memory));
-            }
-
-        pub again-written : (n : ℕ) (out₂ : List ℕ) → StoresBundle h out₁ s b n out₂ → WritesAgain h s out (Written n) out₂
-        again-written n out₂ second = stored (rw (first .memory) at second)
-          where
-            stored : StoresBundle h out s b n out₂ → WritesAgain h s out (Written n) out₂
-            stored p =
-                let facts : List Fact = factsOf s b in
-                let at-end : n ≡ length (bundleOf facts) =
-                p .place ∙ ap (λ x. stateAfter h (length out) x facts .at) (start-of true) ∙ ends-all h (length out) facts fine few true room in
-                let bytes : out₂ ≡ sets out 0 (bundleOf facts) =
-                p .memory ∙ ap (λ x. memoryAfter h (sets out 0 (bytesOf (b .count))) x facts) (start-of true)
-                ∙ ap (λ m. memoryAfter h (sets out 0 (bytesOf m)) (started (length facts) (length out) true) facts) (sym (there .count))
-                ∙ stores-all h facts fine few out room in
-                record { answer = rw gave (ap gives at-end); memory = rw gave bytes }
+    pub again-written : (first : Writing) (out₁ : List ℕ) → FirstPass h out s b first out₁ → (r : BundleWrote) (out₂ : List ℕ) → SecondPass h out₁ s b first r out₂
+        → WritesAgain h s out r out₂
+    again-written first out₁ p r out₂ q = after-first (rw (p .memory) at q)
+      where
+        after-first : SecondPass h out s b first r out₂ → WritesAgain h s out r out₂
+        after-first q′ =
+            passes (b .count) (sym (there .count)) r out₂
+            (q′ .answer ∙ ap (λ x. answerOf (stateAfter h (length out) (secondStart (b .count) (length out) x) (factsOf s b))) (p .state))
+            (q′ .memory ∙ ap (λ x. memoryAfter h (countStored out (b .count) x) (secondStart (b .count) (length out) x) (factsOf s b)) (p .state))
 
 -- what is written is what was read
 module _ (h : Head) (s : List ℕ) (bytes : Bytes s) where
@@ -256,4 +232,4 @@ module _ (h : Head) (s : List ℕ) (bytes : Bytes s) where
   unfolding planAgain readBundle
   again-same room = same-plan room (checkBundle h s) refl
 
-pub ruleset rewriting = (pass-starts, pass-on, pass-stops, pass-ends, pass-measured, pass-stored, again-refused, again-short, again-fits, again-written, needs)
+pub ruleset rewriting = (pass-starts, pass-on, pass-stops, pass-ends, pass-first, pass-second, again-refused, again-written, needs)

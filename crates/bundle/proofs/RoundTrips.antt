@@ -1,24 +1,23 @@
 -- Both round trips: what is written for lawful facts is accepted and read back as these facts, and what is read from accepted bytes is written as these bytes.
 -- Each goes fact by fact: a fact's bytes are its numbers' bytes, which a number's own laws read back and write again.
-use Prim.Native.Nat.{ℕ, zero, suc, _+_, _≤_, _<_}
+use Prim.Native.Nat.{ℕ, _+_, _≤_, _<_}
 use mathlib.Core.Path.{_≡_, refl, sym, ap, _∙_}
 use mathlib.Core.Bool.{Bool, true, false, cond}
-use mathlib.Core.List.{List, [], _∷_, _++_, append-assoc, append-nil}
+use mathlib.Core.List.{List, [], _++_, append-assoc, append-nil}
 use lib.ListN.{length, drop, length-append, drop-of-length-le}
-use lib.Dec.{ltb, leb}
 use native.Mathlib.Omega.{arith}
 use borrow.Author.Tests.{le-leb, le-ltb}
-use Rattle.number.specs.Answer.{Answer, Read, refusal, _then_, over}
+use Rattle.number.specs.Answer.{Answer, over}
 use Rattle.number.specs.Answer.Answer.{gives, refuses}
 use Rattle.number.specs.Number.{numberAt, bytesOf, threeBytes}
-use Rattle.number.proofs.Laws.{Bytes, OneForm, one-form, reads-back}
+use Rattle.number.proofs.Laws.{Bytes, one-form, reads-back}
 use Rattle.site.specs.declared.fact.Fact.{Fact}
 use Rattle.site.specs.Items.{countAt, endAt}
 use Rattle.site.specs.Kinds.{ofConcept}
 use Rattle.site.specs.Limits.{mostFacts, mostNumber, mostRoles, mostThing}
 use Rattle.site.specs.Lists.{each}
 use Rattle.rules.specs.declared.head.Head.{Head}
-use Rattle.bundle.specs.Bundle.{Last, factsFrom, factsIn, factsOf, predicateKnown, checkBundle, readBundle, factBytes, bundleOf}
+use Rattle.bundle.specs.Bundle.{Last, factsOf, predicateKnown, checkBundle, readBundle, factBytes, bundleOf}
 use Rattle.bundle.specs.Bundle.Last.{none}
 use Rattle.bundle.specs.Lawful.{LawfulFact, LawfulFrom, LawfulFacts}
 use Rattle.bundle.specs.Lawful.LawfulFrom.{done, next as one-more}
@@ -26,7 +25,7 @@ use Rattle.bundle.specs.declared.facts.Facts.{Facts}
 use Rattle.bundle.proofs.Runs.{never, same-given, ObjectThere, FactThere, Run, run-walks, run-reads}
 use Rattle.bundle.proofs.Runs.ObjectThere.{of-concept, of-role}
 use Rattle.bundle.proofs.Runs.Run.{stop, more}
-use Rattle.bundle.proofs.Accepted.{BundleThere, bundle-there}
+use Rattle.bundle.proofs.Accepted.{bundle-there}
 use Rattle.bundle.proofs.Longest.{declared-low}
 
 -- a number whose bytes stand at a place

@@ -1,10 +1,10 @@
 -- Facts that are read one after the other: what a fact's numbers are where it is read, and an accepted walk as one list of such steps.
 -- A run is what acceptance gives, and a run gives acceptance; every law about a bundle's facts goes by the run's steps.
-use Prim.Native.Nat.{ℕ, zero, suc, _+_, _≤_}
+use Prim.Native.Nat.{ℕ, zero, suc, _<_}
 use mathlib.Core.Path.{_≡_, refl, sym, ap, ap₂, _∙_}
 use mathlib.Core.Bool.{Bool, true, false, cond}
 use mathlib.Core.List.{List, [], _∷_}
-use lib.ListN.{length}
+use lib.ListN.{length, getD}
 use lib.Dec.{ltb}
 use native.Mathlib.Omega.{arith}
 use Rattle.number.specs.Answer.{Answer, Read, refusal, _then_}
@@ -12,11 +12,11 @@ use Rattle.number.specs.Answer.Answer.{gives, refuses}
 use Rattle.number.specs.Number.{numberAt}
 use Rattle.number.specs.declared.refusal.Refusal.{Refusal}
 use Rattle.site.specs.declared.fact.Fact.{Fact}
-use Rattle.site.specs.Items.{codeAt, onward}
+use Rattle.site.specs.Items.{codeAt}
 use Rattle.site.specs.Kinds.{ofConcept}
 use Rattle.site.specs.Limits.{mostNumber, mostThing}
 use Rattle.bundle.specs.Bundle.{Last, factAt, ascends, factsFrom, factsIn}
-use Rattle.bundle.specs.Bundle.Last.{none, after}
+use Rattle.bundle.specs.Bundle.Last.{after}
 use Rattle.bundle.specs.Told.{factRest}
 
 -- an answer is not both
@@ -212,3 +212,16 @@ module _ (known : ℕ → Bool) (s : List ℕ) where
   pub any-run : {last : Last} {fs : List Fact} {at end : ℕ} → Run known s last fs at end → Run (λ _. true) s last fs at end
   any-run stop = stop
   any-run (more there up run) = more (any-there there) up (any-run run)
+
+-- the fact of each number, where a pass that takes any predicate reads it
+pub record FactNumbered (s : List ℕ) (f : Fact) : Type 0 where
+  pub place : ℕ
+  pub next : ℕ
+  pub read : factAt (λ _. true) s place ≡ gives (record { value = f; next = next })
+
+pub run-numbered : {known : ℕ → Bool} {s : List ℕ} {last : Last} {fs : List Fact} {at end : ℕ} → Run known s last fs at end
+    → (k : ℕ) (d : Fact) → k < length fs → FactNumbered s (getD fs k d)
+run-numbered stop k d h = absurd (omega arith)
+run-numbered {s = s} (more {f = f} {at = at} {next = next} there up run) zero d h =
+    record { place = at; next = next; read = fact-read (λ _. true) s at f next (any-there there) }
+run-numbered (more there up run) (suc k) d h = run-numbered run k d (omega arith)

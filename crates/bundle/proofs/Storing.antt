@@ -1,5 +1,5 @@
 -- What the tests of the writing functions say of a fact's bytes and of the writing's state: one law for each way out.
-use Prim.Native.Nat.{ℕ, zero, suc, _+_, _-_, _≤_, _<_, _^_}
+use Prim.Native.Nat.{ℕ, suc, _+_, _-_, _≤_, _<_, _^_}
 use mathlib.Core.Path.{_≡_, refl, sym, ap, _∙_}
 use mathlib.Core.Bool.{Bool, true, false, cond, _&&_, _||_, not, true≢false}
 use mathlib.Core.List.{List, [], _∷_, _++_, append-nil}
@@ -7,11 +7,11 @@ use lib.ListN.{length, length-append}
 use lib.Seq.{sets, length-sets}
 use lib.Dec.{ltb, leb, eqb}
 use mir.Val.{Fits}
-use mir.Syntax.{w64}
+use mir.Syntax.{w32, w64}
 use native.Mathlib.Omega.{arith}
-use borrow.Author.Tests.{lt-ltb, le-ltb, le-leb, lt-leb, ne-eqb, leb-true, leb-false, not-true, not-false, eqb-true}
+use borrow.Author.Tests.{lt-ltb, le-ltb, le-leb, lt-leb, leb-true, ltb-false, not-true, not-false}
 use borrow.Author.Needs.{needs}
-use Rattle.number.specs.Answer.{Answer, refusal, over, laid}
+use Rattle.number.specs.Answer.{refusal, over, laid}
 use Rattle.number.specs.Answer.Answer.{gives, refuses}
 use Rattle.number.specs.Number.{bytesOf, plan, threeBytes}
 use Rattle.number.specs.Told.{toldWrote, Writes, Stores, Stored}
@@ -28,7 +28,7 @@ use Rattle.rules.specs.declared.head.Head.{Head}
 use Rattle.bundle.specs.Bundle.{Last, ascends, factBytes, predicateKnown}
 use Rattle.bundle.specs.Records.{recordFault}
 use Rattle.bundle.specs.Told.{lastOf, beforeFirst, afterFact}
-use Rattle.bundle.specs.Pushed.{StoresFact, StoredFact, started, faultOf, stopped, counted, judged, settled, shortened, movedTo, placed, storedBy, Pushes}
+use Rattle.bundle.specs.Pushed.{StoresFact, StoredFact, started, overfull, startOf, faultOf, stopped, judged, settled, shortened, movedTo, placed, storedBy, Pushes, closed, secondStart, countStored, Begins, answerOf}
 use Rattle.bundle.specs.declared.before.Before.{Before}
 use Rattle.bundle.specs.declared.writing.Writing.{Writing}
 use Rattle.bundle.proofs.Runs.{never, same-given}
@@ -198,9 +198,16 @@ module _ (h : Head) (b : Before) (f : Fact) where
             fault-order k = rw (to-order, k)
 
 -- the start
-pub starts : (facts room : ℕ) (storing : Bool) (size : ℕ) (b : Before) → size ≡ length (bytesOf facts) → b ≡ beforeFirst
-    → record { count = 0; before = b; at = size; short = ltb room size; fault = 0; place = 0; storing = storing } ≡ started facts room storing
-starts facts room storing size b is is-b = rw (is, is-b)
+module _ (facts room : ℕ) (storing : Bool) (b : Before) (is-b : b ≡ beforeFirst) where
+  pub start-over : mostFacts < facts
+      → record { count = 0; before = b; at = 0; short = false; fault = 4; place = 0; storing = storing } ≡ startOf facts room storing
+  unfolding startOf
+  start-over k = rw (lt-leb facts mostFacts k, is-b)
+
+  pub start-few : facts ≤ mostFacts → (size : ℕ) → size ≡ length (bytesOf facts)
+      → record { count = 0; before = b; at = size; short = ltb room size; fault = 0; place = 0; storing = storing } ≡ startOf facts room storing
+  unfolding startOf
+  start-few k size is = rw (le-leb facts mostFacts k, is, is-b)
 
 -- judging
 module _ (h : Head) (w : Writing) (f : Fact) where
@@ -340,4 +347,63 @@ module _ (h : Head) (out : List ℕ) (w : Writing) (f : Fact) (x : Writing) (is-
           let k : u ≡ true = not-false u fits in
           record { state = rw (settles, open-yet, fits-so, k, ← is-x, ← is-size) is; memory = rw (settles, open-yet, fits-so, k, ← is-x, e) }
 
-pub ruleset storing = (two-fit, three-fit, concept-size, role-size, put-next, put-refused, first-fits, second-fits, concept-stored, third-fits, role-stored, no-stray, maybe-stray, fault-over, fault-unknown, fault-object, fault-subject, fault-thing, no-fault, fault-order, starts, judged-before, judged-full, judged-fault, judged-counted, settled-fault, settled-short, room-before, room-after, push-settled, push-short, push-fits, push-sum, push-stored, push-measured, needs)
+-- between the passes, and at the end
+module _ (w : Writing) where
+  pub closed-fault : 0 < w .fault → w ≡ closed w
+  closed-fault k = rw (lt-ltb 0 (w .fault) k)
+
+  pub closed-room : w .fault ≤ 0 → (r : Writing) → r ≡ stopped w 9 0 → r ≡ closed w
+  closed-room k r is = rw (le-ltb 0 (w .fault) k) is
+
+  pub answer-refused : 0 < w .fault → refuses (refusal (w .fault) 2 (w .place)) ≡ answerOf w
+  answer-refused k = rw (lt-ltb 0 (w .fault) k)
+
+  pub answer-written : w .fault ≤ 0 → gives (w .at) ≡ answerOf w
+  answer-written k = rw (le-ltb 0 (w .fault) k)
+
+-- a start that is not settled: few facts, and room for their count
+record Starts (facts room : ℕ) : Type 0 where
+  few : facts ≤ mostFacts
+  inside : length (bytesOf facts) ≤ room
+
+module _ (facts room : ℕ) (storing : Bool) where
+  starts-by : (t : Bool) → leb facts mostFacts ≡ t → settled (cond t (started facts room storing) (overfull storing)) ≡ false → Starts facts room
+  starts-by true is e = record { few = leb-true facts mostFacts is; inside = ltb-false room (length (bytesOf facts)) e }
+  starts-by false is e = absurd (true≢false e)
+
+  starts : settled (startOf facts room storing) ≡ false → Starts facts room
+  unfolding startOf
+  starts e = starts-by (leb facts mostFacts) refl e
+
+module _ (out : List ℕ) (facts : ℕ) (first : Writing) (t : Bool) (is-t : t ≡ settled first) where
+  pub begin-closed : t ≡ true → (r : Writing) → r ≡ closed first → Begins out facts first r out
+  unfolding secondStart countStored
+  begin-closed e r is = record { state = rw (← is-t, e) is; memory = rw (← is-t, e) }
+
+  module _ (open-yet : t ≡ false) (x : Writing) (is-x : x ≡ startOf facts (length out) true) (u : Bool) (is-u : u ≡ settled x) where
+    begin-state : x ≡ secondStart facts (length out) first
+    unfolding secondStart
+    begin-state = rw (← is-t, open-yet) is-x
+
+    second-settled : settled (startOf facts (length out) true) ≡ u
+    second-settled = rw (← is-x) (sym is-u)
+
+    pub begin-settled : u ≡ true → Begins out facts first x out
+    unfolding countStored
+    begin-settled e = record { state = begin-state; memory = rw (← is-t, open-yet, second-settled, e) }
+
+    module _ (ready : u ≡ false) where
+      started-so : Starts facts (length out)
+      started-so = starts facts (length out) true (second-settled ∙ ready)
+
+      pub begin-cast : Fits w32 facts
+      begin-cast = record { fits = omega (arith, started-so .few) }
+
+      pub begin-fits : Stores out 0 facts
+      begin-fits = record { formed = omega (arith, started-so .few); room = omega (arith, started-so .inside) }
+
+      pub begin-stored : (n : ℕ) (out′ : List ℕ) → Stored out 0 facts n out′ → Begins out facts first x out′
+      unfolding countStored
+      begin-stored n out′ st = record { state = begin-state; memory = rw (← is-t, open-yet, second-settled, ready) (st .memory) }
+
+pub ruleset storing = (two-fit, three-fit, concept-size, role-size, put-next, put-refused, first-fits, second-fits, concept-stored, third-fits, role-stored, no-stray, maybe-stray, fault-over, fault-unknown, fault-object, fault-subject, fault-thing, no-fault, fault-order, start-over, start-few, judged-before, judged-full, judged-fault, judged-counted, settled-fault, settled-short, room-before, room-after, push-settled, push-short, push-fits, push-sum, push-stored, push-measured, closed-fault, closed-room, answer-refused, answer-written, begin-closed, begin-settled, begin-cast, begin-fits, begin-stored, needs)

@@ -1,20 +1,23 @@
 -- Writing facts that are given one after the other: what one more fact does to the state of the writing and to the lent memory.
 use Prim.Native.Nat.{ℕ, _+_, _≤_}
 use mathlib.Core.Path.{_≡_}
-use mathlib.Core.Bool.{Bool, true, false, cond, _&&_, _||_, not}
+use mathlib.Core.Bool.{Bool, true, false, cond, _||_}
 use mathlib.Core.List.{List, [], _∷_}
 use lib.ListN.{length}
 use lib.Seq.{sets}
-use lib.Dec.{ltb, leb, eqb}
+use lib.Dec.{ltb, leb}
+use Rattle.number.specs.Answer.{Answer, refusal}
+use Rattle.number.specs.Answer.Answer.{gives, refuses}
 use Rattle.number.specs.Number.{bytesOf, threeBytes}
 use Rattle.site.specs.declared.fact.Fact.{Fact}
 use Rattle.site.specs.Limits.{mostFacts, mostNumber}
 use Rattle.rules.specs.declared.head.Head.{Head}
 use Rattle.bundle.specs.Bundle.{Last, factBytes}
-use Rattle.bundle.specs.Bundle.Last.{none, after}
 use Rattle.bundle.specs.Records.{recordFault}
 use Rattle.bundle.specs.Told.{lastOf, beforeFirst, afterFact}
 use Rattle.bundle.specs.declared.writing.Writing.{Writing}
+use Rattle.bundle.specs.declared.writing.BundleWrote.{BundleWrote}
+use Rattle.bundle.specs.declared.writing.BundleWrote.the-variants.{Written, Refused}
 
 -- storing a fact's bytes: its numbers have forms, and they fit
 pub record StoresFact (out : List ℕ) (at : ℕ) (f : Fact) : Type 0 where
@@ -40,6 +43,14 @@ started facts room storing =
       place = 0;
       storing = storing;
     }
+
+-- more facts than a bundle holds
+abbrev pub overfull : Bool → Writing
+overfull storing = record { count = 0; before = beforeFirst; at = 0; short = false; fault = 4; place = 0; storing = storing }
+
+-- "count (4)" comes first
+unfoldable pub startOf : ℕ → ℕ → Bool → Writing
+startOf facts room storing = cond (leb facts mostFacts) (started facts room storing) (overfull storing)
 
 -- the fault of a record; no rule file declares a predicate that is over every number
 unfoldable pub faultOf : Head → Last → Fact → ℕ
@@ -99,3 +110,39 @@ stateAfter h room w (f ∷ fs) = stateAfter h room (placed room (judged h w f) f
 unfoldable pub memoryAfter : Head → List ℕ → Writing → List Fact → List ℕ
 memoryAfter h out w [] = out
 memoryAfter h out w (f ∷ fs) = memoryAfter h (storedBy out (judged h w f) f) (placed (length out) (judged h w f) f) fs
+
+-- after the first pass: its refusal, 9 if the room is too short
+abbrev pub closed : Writing → Writing
+closed w = cond (ltb 0 (w .fault)) w (stopped w 9 0)
+
+-- where the second pass starts: nowhere after a refusal, else with the count stored
+unfoldable pub secondStart : ℕ → ℕ → Writing → Writing
+secondStart facts room first = cond (settled first) (closed first) (startOf facts room true)
+
+unfoldable pub countStored : List ℕ → ℕ → Writing → List ℕ
+countStored out facts first =
+    cond (settled first) out (cond (settled (startOf facts (length out) true)) out (sets out 0 (bytesOf facts)))
+
+pub record Begins (out : List ℕ) (facts : ℕ) (first r : Writing) (out′ : List ℕ) : Type 0 where
+  pub state : r ≡ secondStart facts (length out) first
+  pub memory : out′ ≡ countStored out facts first
+
+-- a bundle that was written: its length, or the refusal
+abbrev pub wroteTold : BundleWrote → Answer ℕ
+wroteTold (Written size) = gives size
+wroteTold (Refused r) = refuses r
+
+-- what the writing comes to at its end
+abbrev pub answerOf : Writing → Answer ℕ
+answerOf w = cond (ltb 0 (w .fault)) (refuses (refusal (w .fault) 2 (w .place))) (gives (w .at))
+
+-- the first pass over some facts, the second, and the lent memory after both
+abbrev pub firstState : Head → ℕ → List Fact → Writing
+firstState h room facts = stateAfter h room (startOf (length facts) room false) facts
+
+abbrev pub lastState : Head → ℕ → List Fact → Writing
+lastState h room facts = stateAfter h room (secondStart (length facts) room (firstState h room facts)) facts
+
+abbrev pub lastMemory : Head → List ℕ → List Fact → List ℕ
+lastMemory h out facts =
+    memoryAfter h (countStored out (length facts) (firstState h (length out) facts)) (secondStart (length facts) (length out) (firstState h (length out) facts)) facts

@@ -1,22 +1,15 @@
 // Writing an accepted bundle's facts as a bundle: the first pass measures, the second stores.
-ghost use Rattle.number.specs.Told.{Stores};
-ghost use Rattle.bundle.specs.Again.{PushesAll, Measures, StoresBundle, WritesAgain};
+ghost use Rattle.bundle.specs.Again.{PushesAll, FirstPass, SecondPass, WritesAgain};
 use crate::check::BundleRead;
 use crate::check::check_bundle;
 use crate::facts::Facts;
 use crate::one::FactRead;
 use crate::one::any_fact_at;
-use crate::store::put_number;
+use crate::writing::BundleWrote;
 use crate::writing::Writing;
+use crate::writing::begin;
 use crate::writing::push;
-use number::Refusal;
 use rules::Head;
-
-// What writing a bundle finds: its length, or the refusal.
-pub enum BundleWrote {
-    Written(usize),
-    Refused(Refusal),
-}
 
 // One pass: a bundle's facts are pushed, one after the other.
 pub fn push_facts(
@@ -43,22 +36,26 @@ pub fn push_facts(
     writing
 }
 
-// The first pass: is the room too short for a bundle of these facts?
-fn too_short(out: &mut [u8], bundle: &[u8], facts: Facts, head: Head) -> bool
-    ensures { λ r. ⌜ Measures head (now (out .entry)) (now (bundle .entry)) facts r (now (out .exit)) ⌝ }
+// The first pass judges and measures.
+fn first_pass(out: &mut [u8], bundle: &[u8], facts: Facts, head: Head) -> Writing
+    ensures { λ r. ⌜ FirstPass head (now (out .entry)) (now (bundle .entry)) facts r (now (out .exit)) ⌝ }
 {
-    let start = Writing::start(facts.count, out.len(), false);
-    push_facts(out, bundle, facts, head, start).short
+    let start = Writing::start(facts.count as usize, out.len(), false);
+    push_facts(out, bundle, facts, head, start)
 }
 
-// The second pass: the count, then the facts, and the length of it all.
-fn store_bundle(out: &mut [u8], bundle: &[u8], facts: Facts, head: Head) -> usize
-    requires { ⌜ Stores (now out) 0 (facts .count) ⌝ }
-    ensures { λ r. ⌜ StoresBundle head (now (out .entry)) (now (bundle .entry)) facts r (now (out .exit)) ⌝ }
+// The second pass stores, where the first one found no fault and room.
+fn second_pass(
+    out: &mut [u8],
+    bundle: &[u8],
+    facts: Facts,
+    head: Head,
+    first: Writing,
+) -> BundleWrote
+    ensures { λ r. ⌜ SecondPass head (now (out .entry)) (now (bundle .entry)) facts first r (now (out .exit)) ⌝ }
 {
-    let start = Writing::start(facts.count, out.len(), true);
-    put_number(out, 0, facts.count);
-    push_facts(out, bundle, facts, head, start).at
+    let start = begin(out, facts.count as usize, first);
+    push_facts(out, bundle, facts, head, start).answer()
 }
 
 // An accepted bundle's facts, written as a bundle where there is room for it.
@@ -69,12 +66,6 @@ pub fn write_bundle_again(bundle: &[u8], head: Head, out: &mut [u8]) -> BundleWr
     let BundleRead::Accepted(facts) = got else {
         return BundleWrote::Refused(got.refusal());
     };
-    if too_short(out, bundle, facts, head) {
-        return BundleWrote::Refused(Refusal {
-            number: Refusal::ROOM,
-            side: Refusal::CALL,
-            place: 0,
-        });
-    }
-    BundleWrote::Written(store_bundle(out, bundle, facts, head))
+    let first = first_pass(out, bundle, facts, head);
+    second_pass(out, bundle, facts, head, first)
 }

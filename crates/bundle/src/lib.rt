@@ -8,7 +8,6 @@ mod store;
 mod walk;
 mod writing;
 
-pub use again::BundleWrote;
 pub use again::push_facts;
 pub use again::write_bundle_again;
 pub use before::Before;
@@ -21,5 +20,7 @@ pub use one::fact_at;
 pub use store::fact_size;
 pub use store::put_number;
 pub use store::write_fact;
+pub use writing::BundleWrote;
 pub use writing::Writing;
+pub use writing::begin;
 pub use writing::push;

@@ -1,7 +1,6 @@
 // One fact at a place of a bundle.
 ghost use mathlib.Core.Path.{_≡_};
 ghost use mathlib.Core.Bool.{true};
-ghost use Rattle.number.specs.Answer.{refusal};
 ghost use Rattle.site.specs.Codes.{predicateDeclared};
 ghost use Rattle.bundle.specs.Bundle.{factAt};
 ghost use Rattle.bundle.specs.Told.{factTold, factRefusal, factRest};

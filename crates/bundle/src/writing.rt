@@ -1,13 +1,14 @@
 // Writing a bundle from facts that are given one after the other, in two passes over them: one that judges and measures, and one that stores.
 ghost use mathlib.Core.Path.{_≡_};
-ghost use mathlib.Core.Bool.{Bool, _&&_, _||_, not};
-ghost use lib.Dec.{eqb, ltb, leb};
+ghost use mathlib.Core.Bool.{_&&_, not};
+ghost use lib.Dec.{eqb, leb};
 ghost use Prim.Native.Nat.{_+_};
 ghost use Rattle.site.specs.Kinds.{ofConcept};
 ghost use Rattle.bundle.specs.Told.{lastOf};
-ghost use Rattle.bundle.specs.Pushed.{started, faultOf, stopped, judged, settled, shortened, movedTo, Pushes};
+ghost use Rattle.bundle.specs.Pushed.{startOf, faultOf, stopped, judged, settled, shortened, movedTo, Pushes, closed, Begins, wroteTold, answerOf};
 use crate::before::Before;
 use crate::store::fact_size;
+use crate::store::put_number;
 use crate::store::write_fact;
 use number::Num;
 use number::Refusal;
@@ -15,6 +16,12 @@ use number::size_of_number;
 use rules::Head;
 use site::Declared;
 use site::Fact;
+
+// What writing a bundle finds: its length, or the refusal.
+pub enum BundleWrote {
+    Written(usize),
+    Refused(Refusal),
+}
 
 // How far the writing is: the records so far, the one before, the place of the next one's bytes, whether the room is too short,
 // the number and the place of a refusal if there is one, and whether bytes are stored.
@@ -69,10 +76,21 @@ impl Writing {
     pub const NO_FAULT: u32 = 0;
 
     // Before the first of so many facts.
-    pub fn start(facts: u32, room: usize, storing: bool) -> Self
-        ensures { λ r. ⌜ r ≡ started facts room storing ⌝ }
+    pub fn start(facts: usize, room: usize, storing: bool) -> Self
+        ensures { λ r. ⌜ r ≡ startOf facts room storing ⌝ }
     {
-        let size = size_of_number(facts);
+        if Fact::MOST < facts {
+            return Self {
+                count: 0,
+                before: Before::none(),
+                at: 0,
+                short: false,
+                fault: Refusal::COUNT,
+                place: 0,
+                storing,
+            };
+        }
+        let size = size_of_number(facts as u32);
         Self {
             count: 0,
             before: Before::none(),
@@ -163,6 +181,30 @@ impl Writing {
             storing: self.storing,
         }
     }
+
+    // After the first pass: its refusal, or that of the room.
+    fn closed(self) -> Self
+        ensures { λ r. ⌜ r ≡ closed self ⌝ }
+    {
+        if Writing::NO_FAULT < self.fault {
+            return self;
+        }
+        self.stopped(Refusal::ROOM, 0)
+    }
+
+    // What the writing comes to at its end.
+    pub fn answer(self) -> BundleWrote
+        ensures { λ r. ⌜ wroteTold r ≡ answerOf self ⌝ }
+    {
+        if Writing::NO_FAULT < self.fault {
+            return BundleWrote::Refused(Refusal {
+                number: self.fault,
+                side: Refusal::CALL,
+                place: self.place as usize,
+            });
+        }
+        BundleWrote::Written(self.at)
+    }
 }
 
 // Is there room for so many bytes at a place?
@@ -192,4 +234,19 @@ pub fn push(out: &mut [u8], writing: Writing, head: Head, fact: Fact) -> Writing
         return next.moved_to(write_fact(out, at, fact));
     }
     next.moved_to(at + size)
+}
+
+// Between the two passes: the count is stored, or the first pass's refusal stands.
+pub fn begin(out: &mut [u8], facts: usize, first: Writing) -> Writing
+    ensures { λ r. ⌜ Begins (now (out .entry)) facts first r (now (out .exit)) ⌝ }
+{
+    if first.settled() {
+        return first.closed();
+    }
+    let second = Writing::start(facts, out.len(), true);
+    if second.settled() {
+        return second;
+    }
+    put_number(out, 0, facts as u32);
+    second
 }

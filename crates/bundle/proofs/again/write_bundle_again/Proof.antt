@@ -12,8 +12,6 @@ write-bundle-again-spec =
     (λ c κs. search rewriting)
     (λ c. search rewriting)
     (λ c κs. search rewriting)
-    (λ c. search rewriting)
-    (λ c. search rewriting)
     (λ c κs. search rewriting)
     (λ c. search rewriting)
     (λ c. search rewriting))

@@ -7,5 +7,8 @@ start-spec =
     tie.close
     (tie.spec
     (λ c κs. search storing)
+    (λ c. search storing)
+    (λ c. search storing)
+    (λ c κs. search storing)
     (λ c κs. search storing)
     (λ c. search storing))

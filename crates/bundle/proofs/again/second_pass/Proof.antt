@@ -1,11 +1,12 @@
 use Rattle.bundle.proofs.Rewriting.{rewriting}
-use Rattle.bundle.proofs.again.store_bundle.Statement.{statement}
-use Rattle.bundle.proofs.again.store_bundle.Tie as tie
+use Rattle.bundle.proofs.again.second_pass.Statement.{statement}
+use Rattle.bundle.proofs.again.second_pass.Tie as tie
 
-pub store-bundle-spec : {M : Type 1} → statement M
-store-bundle-spec =
+pub second-pass-spec : {M : Type 1} → statement M
+second-pass-spec =
     tie.close
     (tie.spec
+    (λ c. search rewriting)
     (λ c κs. search rewriting)
     (λ c κs. search rewriting)
     (λ c κs. search rewriting)

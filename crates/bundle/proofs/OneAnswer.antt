@@ -1,0 +1,74 @@
+-- Each answer of the code says one thing only: what an answer is told to be determines it, so that every contract leaves one answer.
+use Prim.Native.Nat.{ℕ}
+use mathlib.Core.Path.{_≡_, refl, sym, ap, _∙_}
+use mathlib.Core.Bool.{Bool}
+use mathlib.Core.List.{List}
+use Rattle.number.specs.Answer.{Answer, Read}
+use Rattle.number.specs.Answer.Answer.{gives, refuses}
+use Rattle.site.specs.declared.fact.Fact.{Fact}
+use Rattle.rules.specs.declared.head.Head.{Head}
+use Rattle.bundle.specs.Again.{WritesAgain}
+use Rattle.bundle.specs.Bundle.{factAt, checkBundle}
+use Rattle.bundle.specs.Pushed.{Pushes, wroteTold}
+use Rattle.bundle.specs.Told.{factTold, bundleTold}
+use Rattle.bundle.specs.declared.facts.Facts.{Facts}
+use Rattle.bundle.specs.declared.one.FactRead.{FactRead}
+use Rattle.bundle.specs.declared.one.FactRead.the-variants.{Read as ReadFact, Refused as RefusedFact}
+use Rattle.bundle.specs.declared.check.BundleRead.{BundleRead}
+use Rattle.bundle.specs.declared.check.BundleRead.the-variants.{Accepted, Refused as RefusedBundle}
+use Rattle.bundle.specs.declared.writing.Writing.{Writing}
+use Rattle.bundle.specs.declared.writing.BundleWrote.{BundleWrote}
+use Rattle.bundle.specs.declared.writing.BundleWrote.the-variants.{Written, Refused}
+
+-- what can be undone tells its arguments apart
+undone : {A B : Type 0} (f : A → B) (back : B → A) → ((a : A) → back (f a) ≡ a) → (a a′ : A) → f a ≡ f a′ → a ≡ a′
+undone f back is a a′ e = sym (is a) ∙ ap back e ∙ is a′
+
+fact-back : Answer (Read Fact) → FactRead
+fact-back (gives r) = ReadFact (r .value) (r .next)
+fact-back (refuses r) = RefusedFact r
+
+pub fact-told-apart : (r r′ : FactRead) → factTold r ≡ factTold r′ → r ≡ r′
+unfolding fact-back
+fact-told-apart = undone factTold fact-back (elim [ ReadFact f next ↦ refl | RefusedFact r ↦ refl ])
+
+bundle-back : Answer Facts → BundleRead
+bundle-back (gives b) = Accepted b
+bundle-back (refuses r) = RefusedBundle r
+
+pub bundle-told-apart : (r r′ : BundleRead) → bundleTold r ≡ bundleTold r′ → r ≡ r′
+unfolding bundle-back
+bundle-told-apart = undone bundleTold bundle-back (elim [ Accepted b ↦ refl | RefusedBundle r ↦ refl ])
+
+wrote-back : Answer ℕ → BundleWrote
+wrote-back (gives n) = Written n
+wrote-back (refuses r) = Refused r
+
+pub wrote-told-apart : (r r′ : BundleWrote) → wroteTold r ≡ wroteTold r′ → r ≡ r′
+unfolding wrote-back
+wrote-told-apart = undone wroteTold wrote-back (elim [ Written n ↦ refl | Refused r ↦ refl ])
+
+-- reading leaves one answer
+pub one-fact : (known : ℕ → Bool) (s : List ℕ) (at : ℕ) (r r′ : FactRead) → factTold r ≡ factAt known s at → factTold r′ ≡ factAt known s at → r ≡ r′
+one-fact known s at r r′ e e′ = fact-told-apart r r′ (e ∙ sym e′)
+
+pub one-bundle : (h : Head) (s : List ℕ) (r r′ : BundleRead) → bundleTold r ≡ checkBundle h s → bundleTold r′ ≡ checkBundle h s → r ≡ r′
+one-bundle h s r r′ e e′ = bundle-told-apart r r′ (e ∙ sym e′)
+
+-- and so does writing, of the answer and of the lent memory
+pub record SameWriting (r r′ : BundleWrote) (out out′ : List ℕ) : Type 0 where
+  pub answer : r ≡ r′
+  pub memory : out ≡ out′
+
+pub one-writing : (h : Head) (s out : List ℕ) (r r₂ : BundleWrote) (out′ out₂′ : List ℕ) → WritesAgain h s out r out′ → WritesAgain h s out r₂ out₂′
+    → SameWriting r r₂ out′ out₂′
+one-writing h s out r r₂ out′ out₂′ w w₂ =
+    record { answer = wrote-told-apart r r₂ (w .answer ∙ sym (w₂ .answer)); memory = w .memory ∙ sym (w₂ .memory) }
+
+pub record SamePush (w w′ : Writing) (out out′ : List ℕ) : Type 0 where
+  pub state : w ≡ w′
+  pub memory : out ≡ out′
+
+pub one-push : (h : Head) (out : List ℕ) (w : Writing) (f : Fact) (r r₂ : Writing) (out′ out₂′ : List ℕ) → Pushes h out w f r out′ → Pushes h out w f r₂ out₂′
+    → SamePush r r₂ out′ out₂′
+one-push h out w f r r₂ out′ out₂′ p p₂ = record { state = p .state ∙ sym (p₂ .state); memory = p .memory ∙ sym (p₂ .memory) }
