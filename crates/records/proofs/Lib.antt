@@ -6,3 +6,4 @@ pub mod Locals
 pub mod Names
 pub mod OfReader
 pub mod OfRows
+pub mod Passes

@@ -41,7 +41,7 @@ pub records-back : (row : List Record) → map recordOf (map factOf row) ≡ row
 records-back row = map-map recordOf factOf row ∙ map-id row
 
 -- accepted rules declare few roles
-few-roles : (rules : List ℕ) (h : Head) → checkRules rules ≡ gives h → h .roles ≤ mostRoles
+pub few-roles : (rules : List ℕ) (h : Head) → checkRules rules ≡ gives h → h .roles ≤ mostRoles
 unfolding siteOf
 few-roles rules h e = rules-lawful rules h e .roles-within
 
