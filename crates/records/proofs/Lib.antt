@@ -2,6 +2,7 @@ pub mod Answers
 pub mod Calling
 pub mod Closing
 pub mod Filling
+pub mod Lending
 pub mod Locals
 pub mod Names
 pub mod OfReader

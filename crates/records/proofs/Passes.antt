@@ -72,6 +72,47 @@ take-all : (row : List Record) → take (length row) row ≡ row
 take-all [] = refl
 take-all (x ∷ xs) = ap (λ (l : List Record). x ∷ l) (take-all xs)
 
+-- one record of a row, and those after it
+left-on : (rs : List Record) (i n : ℕ) (d : Record) → i < length rs → take (suc n) (drop i rs) ≡ getD rs i d ∷ take n (drop (i + 1) rs)
+left-on [] i n d within = absurd (omega arith)
+left-on (x ∷ rs) zero n d within = refl
+left-on (x ∷ rs) (suc i) n d within = left-on rs i n d (omega arith) ∙ ap (λ (k : ℕ). getD rs i d ∷ take n (drop k (x ∷ rs))) (next i)
+  where
+    next : (i : ℕ) → suc (i + 1) ≡ suc i + 1
+    next i = omega arith
+
+-- a pass over a row: what the whole comes to is what the rest comes to from here
+pub record Passing (h : Head) (rs : List Record) (n : ℕ) (out₀ : List ℕ) (w₀ : Writing) (left i : ℕ) (out : List ℕ) (w : Writing) : Type 0 where
+  pub long : length out ≡ length out₀
+  pub state : stateAfter h (length out₀) w (map factOf (take left (drop i rs))) ≡ stateAfter h (length out₀) w₀ (map factOf (take n rs))
+  pub memory : memoryAfter h out w (map factOf (take left (drop i rs))) ≡ memoryAfter h out₀ w₀ (map factOf (take n rs))
+
+module _ (h : Head) (rs : List Record) (n : ℕ) (out₀ : List ℕ) (w₀ : Writing) where
+  pub pass-starts : Passing h rs n out₀ w₀ n 0 out₀ w₀
+  pass-starts = record { long = refl; state = refl; memory = refl }
+
+  module _ (left i : ℕ) (out : List ℕ) (w : Writing) (inv : Passing h rs n out₀ w₀ left i out w) where
+    pub pass-on : (m : ℕ) → left ≡ suc m → (d : Record) → i < length rs → (w′ : Writing) (out′ : List ℕ) → length out′ ≡ length out → Pushes h out w (factOf (getD rs i d)) w′ out′
+        → Passing h rs n out₀ w₀ m (i + 1) out′ w′
+    unfolding stateAfter memoryAfter
+    pass-on m is d within w′ out′ same p =
+        let f : Fact = factOf (getD rs i d) in
+        let rest : List Fact = map factOf (take m (drop (i + 1) rs)) in
+        let split : map factOf (take left (drop i rs)) ≡ f ∷ rest = ap (λ (k : ℕ). map factOf (take k (drop i rs))) is ∙ ap (map factOf) (left-on rs i m d within) in
+        let moved : placed (length out₀) (judged h w f) f ≡ w′ = ap (λ (k : ℕ). placed k (judged h w f) f) (sym (inv .long)) ∙ sym (p .state) in
+        record {
+          long = same ∙ inv .long;
+          state = ap (λ (x : Writing). stateAfter h (length out₀) x rest) (sym moved) ∙ sym (ap (stateAfter h (length out₀) w) split) ∙ inv .state;
+          memory = ap (λ (l : List ℕ). memoryAfter h l w′ rest) (p .memory) ∙ ap (λ (x : Writing). memoryAfter h (storedBy out (judged h w f) f) x rest) (p .state)
+              ∙ sym (ap (memoryAfter h out w) split) ∙ inv .memory;
+        }
+
+    pub pass-ends : left ≡ 0 → PushesRow h (take n rs) out₀ w₀ w out
+    unfolding stateAfter memoryAfter
+    pass-ends none =
+        let over : map factOf (take left (drop i rs)) ≡ [] = ap (λ (k : ℕ). map factOf (take k (drop i rs))) none in
+        record { state = sym (ap (stateAfter h (length out₀) w) over) ∙ inv .state; memory = sym (ap (memoryAfter h out w) over) ∙ inv .memory }
+
 -- the turns are within the row
 module _ (rules : List ℕ) (row : List Record) (out : List ℕ) (o : Opening) (is : o ≡ opened rules (length row) (length out)) where
   pub turns-within : o .turns ≤ length row

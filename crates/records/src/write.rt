@@ -73,13 +73,7 @@ pub fn push_record(out: &mut [u8], writing: Writing, head: Head, slot: Record) -
 }
 
 // One pass over so many records of a row.
-pub fn push_row(
-    row: &[Record],
-    turns: usize,
-    out: &mut [u8],
-    head: Head,
-    start: Writing,
-) -> Writing
+pub fn push_row(row: &[Record], turns: usize, out: &mut [u8], head: Head, start: Writing) -> Writing
     requires { ⌜ turns ≤ length (now row) ⌝ }
     ensures { λ r. ⌜ PushesRow head (take turns (now (row .entry))) (now (out .entry)) start r (now (out .exit)) ⌝ }
 {
