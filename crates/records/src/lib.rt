@@ -13,6 +13,8 @@ pub use hand::hand_records;
 pub use hand::take_at;
 pub use reader::Reader;
 pub use reader::next;
+pub use reader::peek;
+pub use reader::read_at;
 pub use reader::reader_at;
 pub use record::Record;
 pub use step::Started;

@@ -1,6 +1,8 @@
 // A reader that remembers the bundle and its next byte: thin functions, each takes it apart and leaves the work to `step_at`.
 ghost use mathlib.Core.Path.{_≡_};
-ghost use Rattle.records.specs.Told.{Steps};
+ghost use Rattle.records.specs.Reading.{readerStep};
+ghost use Rattle.records.specs.Told.{Steps, stepTold};
+use crate::step::Step;
 use crate::step::Yield;
 use crate::step::step_at;
 
@@ -24,4 +26,18 @@ pub fn next<'s, 'a>(reader: &'s mut Reader<'a>) -> Yield
     let step = step_at(reader.src, reader.at);
     reader.at = step.next;
     step.yields
+}
+
+// What a reader yields next, with the place after it; the reader stays as it is.
+pub fn peek<'a>(reader: Reader<'a>) -> Step
+    ensures { λ r. ⌜ stepTold r ≡ readerStep (now (reader .entry .src)) (reader .entry .at) ⌝ }
+{
+    step_at(reader.src, reader.at)
+}
+
+// The same by a plain slice and a number, for callers that hold no reader.
+pub fn read_at(bundle: &[u8], at: usize) -> Step
+    ensures { λ r. ⌜ stepTold r ≡ readerStep (now (bundle .entry)) at ⌝ }
+{
+    peek(reader_at(bundle, at))
 }
