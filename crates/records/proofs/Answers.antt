@@ -1,13 +1,12 @@
 -- One law for each way out of the functions on bytes: what the readers below said, put into the definitions of this crate.
 use Prim.Native.Nat.{ℕ, _≤_, _<_}
-use mathlib.Core.Path.{_≡_, refl, sym, ap, _∙_}
-use mathlib.Core.Bool.{Bool, true, false, cond}
+use mathlib.Core.Path.{_≡_}
+use mathlib.Core.Bool.{true}
 use mathlib.Core.List.{List}
 use lib.ListN.{length}
-use lib.Dec.{ltb, leb}
 use borrow.Author.Needs.{needs}
 use borrow.Author.Tests.{le-ltb, lt-ltb, le-leb, lt-leb}
-use Rattle.number.specs.Answer.{Answer, Read, refusal, over}
+use Rattle.number.specs.Answer.{refusal}
 use Rattle.number.specs.Answer.Answer.{gives, refuses}
 use Rattle.number.specs.declared.refusal.Refusal.{Refusal}
 use Rattle.site.specs.declared.fact.Fact.{Fact}
@@ -23,9 +22,9 @@ use Rattle.bundle.specs.declared.one.FactRead.{FactRead}
 use Rattle.bundle.specs.declared.one.FactRead.the-variants.{Read as ReadFact, Refused as RefusedFact}
 use Rattle.bundle.specs.declared.check.BundleRead.{BundleRead}
 use Rattle.bundle.specs.declared.check.BundleRead.the-variants.{Accepted as BundleAccepted, Refused as BundleRefused}
-use Rattle.records.specs.Reading.{Stepped, readerStart, readerStep, goesOn}
+use Rattle.records.specs.Reading.{Stepped, readerStart, readerStep}
 use Rattle.records.specs.Reading.Found.{fact, done}
-use Rattle.records.specs.Rows.{recordOf, handOut, takenOf, takeAt}
+use Rattle.records.specs.Rows.{recordOf, handOut, takeAt}
 use Rattle.records.specs.Told.{handed, decided}
 use Rattle.records.specs.declared.record.Record.{Record}
 use Rattle.records.specs.declared.hand.Hand.{Hand}

@@ -1,13 +1,13 @@
 -- Filling a row with a bundle's records, slot by slot: what is left to fill, and that a row filled to the end holds the facts' records and then what it held.
 use Prim.Native.Nat.{ℕ, zero, suc, _+_, _≤_}
-use mathlib.Core.Path.{_≡_, refl, sym, ap, _∙_}
-use mathlib.Core.Bool.{Bool, true, cond}
+use mathlib.Core.Path.{_≡_, refl, ap, _∙_}
+use mathlib.Core.Bool.{true, cond}
 use mathlib.Core.List.{List, [], _∷_, _++_, map, append-assoc}
 use lib.ListN.{length, drop, set, length-append, length-map}
 use lib.Dec.{leb}
 use native.Mathlib.Omega.{arith}
 use borrow.Author.Tests.{leb-true}
-use Rattle.number.specs.Answer.{Answer, Read, refusal, _then_, over}
+use Rattle.number.specs.Answer.{Answer, Read, refusal, _then_}
 use Rattle.number.specs.Answer.Answer.{gives, refuses}
 use Rattle.site.specs.declared.fact.Fact.{Fact}
 use Rattle.site.specs.Items.{onward}
@@ -17,7 +17,7 @@ use Rattle.bundle.specs.Bundle.{factAt, checkBundle, factsIn, factsOf}
 use Rattle.bundle.specs.declared.facts.Facts.{Facts}
 use Rattle.bundle.proofs.Runs.{went, passed}
 use Rattle.bundle.proofs.Accepted.{accepted-count}
-use Rattle.records.specs.Rows.{recordOf, handOut, handRecords, rowAfter, takenOf, takeAt}
+use Rattle.records.specs.Rows.{recordOf, handOut, handRecords, takeAt}
 use Rattle.records.specs.Told.{handed, decided, Hands}
 use Rattle.records.specs.declared.record.Record.{Record}
 use Rattle.records.specs.declared.hand.Hand.{Hand}

@@ -8,3 +8,4 @@ pub mod Names
 pub mod OfReader
 pub mod OfRows
 pub mod Passes
+pub mod Turns

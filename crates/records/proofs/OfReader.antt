@@ -2,7 +2,7 @@
 use Prim.Native.Nat.{ℕ, zero, suc, _+_, _≤_, _<_}
 use mathlib.Core.Path.{_≡_, refl, sym, ap, _∙_}
 use mathlib.Core.Bool.{Bool, true, false, cond}
-use mathlib.Core.List.{List, [], _∷_, _++_, map}
+use mathlib.Core.List.{List, _∷_, _++_, map}
 use lib.ListN.{length, replicate}
 use lib.Dec.{ltb}
 use native.Mathlib.Omega.{arith}
@@ -11,19 +11,19 @@ use Rattle.number.specs.Answer.{Answer, Read, _then_}
 use Rattle.number.specs.Answer.Answer.{gives, refuses}
 use Rattle.number.specs.Number.{numberAt}
 use Rattle.number.specs.declared.refusal.Refusal.{Refusal}
-use Rattle.number.proofs.Laws.{bounds, RefusedHow, refused-how}
+use Rattle.number.proofs.Laws.{bounds, refused-how}
 use Rattle.number.proofs.Writing.{picked}
 use Rattle.site.specs.declared.fact.Fact.{Fact}
 use Rattle.site.specs.Items.{codeAt}
 use Rattle.site.specs.Limits.{mostThing}
 use Rattle.rules.specs.RuleFile.{checkRules}
 use Rattle.rules.specs.declared.head.Head.{Head}
-use Rattle.bundle.specs.Bundle.{Last, factAt, checkBundle, factsOf, predicateKnown}
+use Rattle.bundle.specs.Bundle.{Last, factAt, checkBundle, factsOf}
 use Rattle.bundle.specs.Told.{factRest}
 use Rattle.bundle.specs.declared.facts.Facts.{Facts}
 use Rattle.bundle.proofs.Runs.{never, FactThere, fact-read, any-there, code-there, fact-by-rest, Run}
 use Rattle.bundle.proofs.Runs.Run.{stop, more}
-use Rattle.bundle.proofs.Accepted.{BundleThere, bundle-there}
+use Rattle.bundle.proofs.Accepted.{bundle-there}
 use Rattle.records.specs.Reading.{Found, Stepped, goesOn, readerStart, readerStep, yieldsFrom}
 use Rattle.records.specs.Reading.Found.{fact, done}
 

@@ -1,5 +1,5 @@
 -- Laws of rows: records that were handed out are written back as the same bundle, and a row that was accepted is handed out as itself.
-use Prim.Native.Nat.{ℕ, zero, suc, _+_, _≤_}
+use Prim.Native.Nat.{ℕ, suc, _+_, _≤_}
 use mathlib.Core.Path.{_≡_, refl, sym, ap, _∙_}
 use mathlib.Core.Bool.{Bool, true, false, cond, _&&_, not}
 use mathlib.Core.List.{List, [], _∷_, map, map-map, map-id}
@@ -10,7 +10,6 @@ use borrow.Author.Tests.{le-leb, leb-true, eqb-true, not-false}
 use Rattle.number.specs.Answer.{Answer, refusal, _then_, over}
 use Rattle.number.specs.Answer.Answer.{gives, refuses}
 use Rattle.number.proofs.Laws.{Bytes}
-use Rattle.number.proofs.Writing.{picked}
 use Rattle.site.specs.declared.fact.Fact.{Fact}
 use Rattle.site.specs.Kinds.{ofConcept}
 use Rattle.site.specs.Limits.{mostFacts, mostRoles, mostThing}

@@ -1,27 +1,25 @@
 -- Writing a row: one law for each way out of the functions on values, and what the two passes over a row come to.
 use Prim.Native.Nat.{ℕ, zero, suc, _+_, _≤_, _<_}
 use mathlib.Core.Path.{_≡_, refl, sym, ap, subst⁻¹, _∙_}
-use mathlib.Core.Bool.{Bool, true, false, cond}
+use mathlib.Core.Bool.{true, false}
 use mathlib.Core.List.{List, [], _∷_, map}
 use lib.ListN.{length, length-map, take, drop, getD}
 use native.Mathlib.Omega.{arith}
 use borrow.Author.Needs.{needs}
-use Rattle.number.specs.Answer.{Answer, refusal, _then_, over, laid}
+use Rattle.number.specs.Answer.{Answer, refusal, over}
 use Rattle.number.specs.Answer.Answer.{gives, refuses}
 use Rattle.number.specs.declared.refusal.Refusal.{Refusal}
 use Rattle.site.specs.declared.fact.Fact.{Fact}
-use Rattle.site.specs.Limits.{mostRoles}
 use Rattle.rules.specs.RuleFile.{checkRules}
 use Rattle.rules.specs.Told.{rulesTold}
 use Rattle.rules.specs.declared.head.Head.{Head}
 use Rattle.rules.specs.declared.check.RulesRead.{RulesRead}
 use Rattle.rules.specs.declared.check.RulesRead.the-variants.{Accepted, Refused}
 use Rattle.bundle.specs.Pushed.{startOf, judged, placed, storedBy, stateAfter, memoryAfter, secondStart, countStored, answerOf, Pushes, Begins, wroteTold, firstState, lastState, lastMemory}
-use Rattle.bundle.specs.Records.{planRecords}
 use Rattle.bundle.specs.declared.writing.Writing.{Writing}
 use Rattle.bundle.specs.declared.writing.BundleWrote.{BundleWrote}
 use Rattle.bundle.specs.declared.writing.BundleWrote.the-variants.{Written, Refused as NotWritten}
-use Rattle.bundle.proofs.Pushing.{pass-keeps, start-storing, TwoPasses, two-passes-of-records}
+use Rattle.bundle.proofs.Pushing.{pass-keeps, start-storing, two-passes-of-records}
 use Rattle.records.specs.Rows.{factOf, writeRow}
 use Rattle.records.specs.Written.{openedBy, opened, PushesRow, TurnsOver, wroteRow, ended, WritesRow}
 use Rattle.records.specs.declared.record.Record.{Record}

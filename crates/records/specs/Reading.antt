@@ -1,12 +1,11 @@
 -- The fact reader: where it starts, and what one step yields from any place whatever.
 use Prim.Native.Nat.{ℕ, zero, suc}
-use mathlib.Core.Bool.{Bool, true, cond}
+use mathlib.Core.Bool.{true, cond}
 use mathlib.Core.List.{List, [], _∷_}
 use lib.ListN.{length}
 use lib.Dec.{ltb}
-use Rattle.number.specs.Answer.{Answer, Read, refusal, _then_, over}
+use Rattle.number.specs.Answer.{Answer, Read, _then_, over}
 use Rattle.number.specs.Answer.Answer.{gives, refuses}
-use Rattle.number.specs.declared.refusal.Refusal.{Refusal}
 use Rattle.site.specs.declared.fact.Fact.{Fact}
 use Rattle.rules.specs.RuleFile.{checkRules}
 use Rattle.bundle.specs.Bundle.{factAt, checkBundle}

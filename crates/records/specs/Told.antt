@@ -4,7 +4,7 @@ use mathlib.Core.Path.{_≡_}
 use mathlib.Core.List.{List}
 use lib.ListN.{length}
 use denote.Ref.{now}
-use Rattle.number.specs.Answer.{Answer, refusal, over}
+use Rattle.number.specs.Answer.{Answer, over}
 use Rattle.number.specs.Answer.Answer.{gives, refuses}
 use Rattle.bundle.specs.declared.facts.Facts.{Facts}
 use Rattle.records.specs.Reading.{Found, Stepped, readerStep}

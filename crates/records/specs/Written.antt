@@ -1,7 +1,7 @@
 -- Writing a row of records: how it starts, what each pass does, and what the whole comes to.
 use Prim.Native.Nat.{ℕ}
 use mathlib.Core.Path.{_≡_}
-use mathlib.Core.Bool.{Bool, true, false, cond}
+use mathlib.Core.Bool.{true, false, cond}
 use mathlib.Core.List.{List, map}
 use lib.ListN.{length}
 use Rattle.number.specs.Answer.{Answer, refusal, over, laid}

@@ -1,19 +1,20 @@
 -- `hand_records` meets its contract: a walk of its MIR, with one loop. The row's borrow is opened once, before the loop, and closed once, after it.
 -- The loop's invariant: the row as it is, filled with the records that are left, is the row as it was, filled with all of them.
 -- Each turn hands `take_at` a copy of what the bundle's slice owns, and puts the record that it gave into the row's slot.
-use Rattle.records.proofs.Names.{_≡_, refl, sym, ap, subst, _∙_, ℕ, zero, suc, _+_, _*_, _≤_, _<_, _^_, arith, Bool, true, false, List, [], _∷_, ltb, lit<, length, getD, set, length-set, Nat·lt-wfRel, URA, fullShare, Ty, named, w8, w64, tyInt, tyPtr, tyBool, tyRef, Val, vint, vptr, vbool, SProp, ent, sep, emp, via, fst∗, id⊢, Lft, Share, GName, Fml, ftrue, fat, froom, fdies, flft, fobs, fauth, fbor, fobor, Memory, Routine, Heap, Env, Calls, Loops, WpFn, Tables, Atoms, sem, Fun, tables, Given, Item, Seq, Go, runs, atRet, anyQ, ‵, raw, _⊛_, ⋆, given, _$_, _∵_, !, qed, by, move, keep, drop, use1, use2, use3, split, join, learn, rewrite, fsplit, fjoin, suffices, frame, done, whole, sub, look-in, look, init, store, store-raw, forget, stop, hop, fld, from, load, lit, of-opd, bin, and-then, no-more, assigns, assigns-last, blocks, first, stays, leaves-loop, land, returns, enter, alloc1, alloc0, params1, pass1, pass0, free1, free0, exec, loops, again, Below, FmC, fmOf, RattleType, owns, pointee, pureI, Is, shows, uint-makes, u8, usize, RefT, now, plain, namedLft, sliceVal, sliceTy, MutSlice, ShrSlice, Room, at-slice, heres, codedHoleys, slice-vals, shr-slice-tells, shr-slice-lawful, shr-slice-copy, mut-slice-tells, Held, place-is, row, elem-out, elem-put, opens-slice, closes-slice, only, owned, peeks, nothing, all-own, ownAt, rest, own-open, own-out, Contract, Triple, cited, onEntry, tripleOf, says, Stays, stay-slice, stay-none-slice, walkOf, goes-slice, goes-none-slice, Walks, ends-at, walked, yes}
+use Rattle.records.proofs.Names.{_≡_, refl, sym, ap, subst, _∙_, ℕ, zero, suc, _+_, _<_, _^_, arith, Bool, List, [], _∷_, lit<, length, set, length-set, Nat·lt-wfRel, URA, fullShare, Ty, named, w8, w64, tyInt, tyPtr, tyBool, tyRef, Val, vint, vptr, vbool, SProp, ent, emp, via, fst∗, id⊢, Lft, Share, GName, Fml, ftrue, fat, flft, fobs, fauth, fbor, fobor, Memory, Routine, Heap, Env, WpFn, Tables, Atoms, Fun, tables, Given, Item, Seq, Go, runs, atRet, anyQ, ‵, raw, _⊛_, ⋆, given, _$_, _∵_, !, qed, by, move, keep, use1, use2, use3, split, join, learn, rewrite, fsplit, fjoin, suffices, frame, done, whole, sub, look-in, look, init, store, store-raw, forget, stop, hop, fld, from, load, lit, of-opd, bin, and-then, no-more, assigns, assigns-last, blocks, first, stays, leaves-loop, land, returns, enter, alloc1, alloc0, params1, pass1, pass0, free1, free0, exec, loops, again, Below, fmOf, RattleType, owns, pointee, pureI, Is, shows, uint-makes, u8, usize, RefT, now, plain, sliceVal, sliceTy, MutSlice, ShrSlice, Room, at-slice, heres, codedHoleys, slice-vals, shr-slice-tells, shr-slice-lawful, shr-slice-copy, mut-slice-tells, Held, place-is, row, elem-out, elem-put, opens-slice, closes-slice, only, owned, peeks, nothing, all-own, ownAt, rest, own-open, own-out, Contract, Triple, cited, onEntry, tripleOf, says, Stays, stay-slice, stay-none-slice, walkOf, goes-slice, goes-none-slice, Walks, ends-at, walked, yes}
 use contract.Running.{tablesOf}
 use prog.Wp.{afterSeq, afterBlock, afterTurn, atReturn, Wp, Out}
 use mir.Syntax.{imm, mut}
-use mathlib.Core.WellFounded.{WellFounded, InvImage·wf}
+use mathlib.Core.WellFounded.{InvImage·wf}
 use borrow.Author.Tests.{lt-ltb, le-ltb}
 use Rattle.records.proofs.Closing.{close}
 use Rattle.records.proofs.Calling.{calls-to}
 use Rattle.records.proofs.Locals.{Cell, Hole, Dies}
+use Rattle.records.proofs.Turns.{slot-fits, next-fits, one-on, sooner}
 use Rattle.records.proofs.Filling.{filled, one-slot, no-slot, hand-fits, hands}
 use denote.Struct.Laws as LL
 use Rattle.records.specs.Rows.{handOut, takeAt}
-use Rattle.records.specs.Told.{decided, Hands}
+use Rattle.records.specs.Told.{decided}
 use Rattle.records.specs.declared.record.Record.{Record}
 use Rattle.records.specs.declared.hand.Hand.{Hand}
 use Rattle.records.specs.declared.hand.Taken.{Taken}
@@ -57,20 +58,6 @@ bundleTy = sliceTy (tyRef (named 1) imm (tyInt w8))
 
 abbrev rowTy : Ty
 rowTy = sliceTy (tyRef (named 2) mut (pointee (R .written)))
-
--- arithmetic of a slot's place
-slot-fits : {i m : ℕ} → i < m → m * 12 < 2 ^ 63 → i * 12 < 2 ^ 64
-slot-fits less room = omega arith
-
-next-fits : {i m : ℕ} → i < m → m < 2 ^ 64 → i + 1 < 2 ^ 64
-next-fits less room = omega arith
-
--- one slot on: what is left is one less
-one-on : (i left n m : ℕ) → left ≡ suc n → i + left ≡ m → i + 1 + n ≡ m
-one-on i left n m e sum = omega arith
-
-sooner : {left n : ℕ} → left ≡ suc n → n < left
-sooner e = omega arith
 
 module _ {M : Type 1} (𝓤 : URA M) (H : Heap 𝓤) (A : Atoms 𝓤) (mem : Memory → SProp 𝓤) (run : Routine → Fun 𝓤) where
   -- the contracts that the proof cites

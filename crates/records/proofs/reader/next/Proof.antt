@@ -1,16 +1,15 @@
 -- `next` meets its contract: a walk of its MIR. The borrow is opened, the slice and the number go to `step_at`, the place that it gave is stored, and the borrow is closed at the reader with that place.
 -- The struct is Copy: what it owns is had twice, one copy is kept for the exit, and of the other what src owns goes to the callee.
-use Rattle.records.proofs.Names.{_≡_, refl, ap, ℕ, _<_, _^_, List, [], _∷_, length, URA, fullShare, named, erased, w64, Val, vint, vptr, vstruct, vnil, vcons, SProp, ent, sep, emp, via, fst∗, id⊢, GName, Lft, Share, Fml, ftrue, fat, flft, fobs, fbor, Memory, Routine, Heap, Calls, Loops, WpFn, Tables, Atoms, sem, AllOutlive, Fun, Given, ‵, raw, _⊛_, ⋆, given, _$_, _∵_, !, qed, by, move, keep, drop, use1, use2, split, join, learn, rewrite, fsplit, fsplit3, fjoin, fjoin3, feqI, suffices, frame, done, whole, sub, look-in, store-in, look, init, forget, stop, hop, fld, from, load, of-opd, and-then, no-more, assigns, land, returns, enter, alloc1, alloc0, params1, pass1, pass0, free1, free0, Body, FmC, fmOf, RattleType, owns, tables, mem, cellAt, Is, shows, uint-makes, u8, usize, RefT, NamedLft, MutRef, ptr-vals, mut-tells, now, Slot, plain, namedLft, sliceVal, ShrSlice, Room, only, opens, closes, owned, peeks, nothing, all-own, ownAt, rest, own-open, own-out, own-put, spelt, Contract, Triple, cited, onEntry, tripleOf, says, Stays, stay-ref, walkOf, goes-ref, Walks, ends-at, walked}
+use Rattle.records.proofs.Names.{_≡_, refl, ap, ℕ, _<_, _^_, List, [], _∷_, length, URA, fullShare, named, erased, w64, Val, vint, vptr, vstruct, vnil, vcons, SProp, ent, emp, via, fst∗, id⊢, GName, Lft, Share, ftrue, fat, flft, fobs, fbor, Memory, Routine, Heap, Calls, Loops, WpFn, Tables, Atoms, sem, AllOutlive, Fun, Given, ‵, raw, _⊛_, ⋆, given, _$_, _∵_, !, qed, by, move, keep, drop, use1, use2, split, join, learn, rewrite, fsplit, fsplit3, fjoin, fjoin3, feqI, suffices, frame, done, whole, sub, look-in, store-in, look, init, forget, stop, hop, fld, from, load, of-opd, and-then, no-more, assigns, land, returns, enter, alloc1, alloc0, params1, pass1, pass0, free1, free0, Body, FmC, fmOf, RattleType, owns, tables, mem, cellAt, Is, shows, uint-makes, u8, usize, RefT, NamedLft, MutRef, ptr-vals, mut-tells, now, Slot, plain, namedLft, sliceVal, ShrSlice, only, opens, closes, owned, peeks, nothing, all-own, ownAt, rest, own-open, own-out, own-put, spelt, Contract, Triple, cited, onEntry, tripleOf, says, Stays, stay-ref, walkOf, goes-ref, Walks, ends-at, walked}
 use contract.Running.{tablesOf}
 use Rattle.records.proofs.Closing.{close}
 use Rattle.records.proofs.Calling.{calls-to}
 use denote.Enum.Laws as EL
 use denote.Struct.Laws as LL
 use Rattle.records.specs.Reading.{Stepped, readerStep}
-use Rattle.records.specs.Told.{stepTold, Steps}
+use Rattle.records.specs.Told.{stepTold}
 use Rattle.records.specs.declared.reader.Reader.{Reader}
 use Rattle.records.specs.declared.step.Step.{Step}
-use Rattle.records.specs.declared.step.Yield.{Yield}
 use Rattle.records.proofs.reader.Reader as T
 use Rattle.records.proofs.reader.Reader.Laws as T′
 use Rattle.records.proofs.step.Step as S

@@ -1,6 +1,6 @@
 -- `peek` meets its contract: a walk of its MIR. The struct is taken apart, and `step_at` is called on the slice and the number.
 -- The struct is Copy: one copy of what it owns is kept for the exit, and of the other what src owns goes to the callee.
-use Rattle.records.proofs.Names.{_≡_, refl, ℕ, _<_, _^_, List, [], _∷_, length, URA, named, w64, Val, WT, hasTy, Holds, vint, SProp, ent, emp, via, fst∗, id⊢, Lft, Share, Fml, ftrue, flft, Memory, Routine, Heap, Tables, WpFn, Atoms, Lfts, Fun, tables, Given, ‵, raw, _⊛_, ⋆, given, _$_, _∵_, !, qed, by, move, keep, drop, use1, use2, split, join, learn, fsplit, fjoin, suffices, frame, done, whole, sub, look-in, look, init, forget, stop, fld, from, load, of-opd, and-then, no-more, assigns, land, returns, enter, alloc1, alloc0, params1, pass1, pass0, free1, free0, fmOf, RattleType, owns, Is, shows, uint-makes, u8, usize, now, namedLft, sliceVal, ShrSlice, owned, peeks, nothing, Declared, all-own, ownAt, rest, own-open, own-out, Values, Contract, Triple, cited, onEntry, tripleOf, says, Stays, stay-none, walkOf, goes-none, Walks, ends-at, walked, yes}
+use Rattle.records.proofs.Names.{_≡_, refl, _<_, _^_, [], _∷_, length, URA, named, w64, Val, WT, hasTy, Holds, vint, SProp, ent, emp, via, fst∗, id⊢, Lft, Share, Fml, ftrue, flft, Memory, Routine, Heap, Tables, WpFn, Atoms, Lfts, Fun, tables, Given, ‵, raw, _⊛_, ⋆, given, _$_, _∵_, !, qed, by, move, keep, use1, use2, split, join, learn, fsplit, fjoin, suffices, frame, done, whole, sub, look-in, look, init, forget, stop, fld, from, load, of-opd, and-then, no-more, assigns, land, returns, enter, alloc1, alloc0, params1, pass1, pass0, free1, free0, fmOf, RattleType, owns, Is, shows, uint-makes, u8, usize, now, namedLft, sliceVal, ShrSlice, owned, peeks, nothing, Declared, all-own, ownAt, rest, own-open, own-out, Values, Contract, Triple, cited, onEntry, tripleOf, says, Stays, stay-none, walkOf, goes-none, Walks, ends-at, walked, yes}
 use contract.Running.{tablesOf}
 use Rattle.records.proofs.Closing.{close}
 use Rattle.records.proofs.Calling.{calls-to}

@@ -1,6 +1,6 @@
 -- `read_at` meets its contract: a walk of its MIR. The reader that `reader_at` returns is held in a local and passed to `peek`.
 -- A local of a body has the struct's type with its lifetime erased: what the struct owns does not say the lifetime's name.
-use Rattle.records.proofs.Names.{_≡_, refl, ap, _∙_, ℕ, _<_, _^_, List, [], _∷_, length, URA, named, erased, w64, Val, vint, SProp, ent, emp, via, fst∗, id⊢, Lft, Share, Fml, ftrue, flft, Memory, Routine, Heap, Tables, WpFn, Atoms, Lfts, Fun, tables, Given, ‵, raw, _⊛_, ⋆, _$_, _∵_, !, qed, by, move, keep, use1, use2, split, join, rewrite, fsplit, fjoin, suffices, frame, done, look, init, forget, stop, from, load, and-then, no-more, land, returns, enter, alloc1, alloc0, params1, pass1, pass0, free1, free0, fmOf, RattleType, owns, Is, shows, uint-makes, uint-vals, uint-tells, u8, usize, RefT, NamedLft, now, plain, namedLft, sliceVal, ShrSlice, slice-vals, shr-slice-tells, shr-slice-lawful, shr-slice-copy, owned, peeks, nothing, Contract, Triple, cited, onEntry, tripleOf, says, Stays, stay-none, stay-none-slice, walkOf, goes-none, goes-none-slice, Walks, ends-at, walked, yes}
+use Rattle.records.proofs.Names.{_≡_, refl, ℕ, _<_, _^_, List, [], _∷_, length, URA, named, erased, w64, Val, vint, SProp, ent, emp, via, fst∗, id⊢, Lft, Share, Fml, ftrue, flft, Memory, Routine, Heap, Tables, WpFn, Atoms, Fun, tables, Given, ‵, raw, _⊛_, ⋆, _$_, _∵_, !, qed, by, move, keep, use1, use2, split, join, rewrite, fsplit, fjoin, suffices, frame, done, look, init, forget, stop, from, load, and-then, no-more, land, returns, enter, alloc1, alloc0, params1, pass1, pass0, free1, free0, fmOf, RattleType, owns, Is, shows, uint-makes, uint-vals, uint-tells, u8, usize, RefT, NamedLft, now, plain, namedLft, sliceVal, ShrSlice, slice-vals, shr-slice-tells, shr-slice-lawful, shr-slice-copy, owned, peeks, nothing, Contract, Triple, cited, onEntry, tripleOf, says, Stays, stay-none, stay-none-slice, walkOf, goes-none, goes-none-slice, Walks, ends-at, walked, yes}
 use contract.Running.{tablesOf}
 use Rattle.records.proofs.Closing.{close}
 use Rattle.records.proofs.Calling.{calls-to}

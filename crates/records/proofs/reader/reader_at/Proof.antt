@@ -1,6 +1,6 @@
 -- `reader_at` meets its contract: a walk of its MIR. The struct is made of the slice and the number in the result's local.
 -- A `&[u8]` is Copy, so what it owns is had twice: once for the parameter at exit, and once inside the result.
-use Rattle.records.proofs.Names.{_≡_, refl, ℕ, List, [], _∷_, length, URA, named, w64, Val, vint, SProp, ent, emp, via, fst∗, Lft, Share, Fml, ftrue, flft, Memory, Routine, Heap, Calls, Loops, WpFn, Atoms, Fun, _<_, _^_, Given, ‵, raw, _⊛_, _$_, _∵_, !, qed, by, move, use1, split, fsplit, fjoin, suffices, frame, agg, look, init, forget, stop, from, load, and-then, no-more, assigns, returns, enter, alloc1, alloc0, params1, pass1, pass0, free1, free0, owns, Is, uint-makes, uint-vals, uint-tells, u8, usize, RefT, NamedLft, plain, namedLft, sliceVal, ShrSlice, slice-vals, shr-slice-tells, shr-slice-lawful, shr-slice-copy, nothing, owned, drop, own-shut, onEntry, says, Stays, stay-none, stay-none-slice, walkOf, goes-none, goes-none-slice, Walks, ends-at, walked, yes}
+use Rattle.records.proofs.Names.{refl, ℕ, List, [], _∷_, length, URA, named, w64, Val, vint, SProp, ent, emp, via, fst∗, Lft, Share, Fml, ftrue, flft, Memory, Routine, Heap, Calls, Loops, WpFn, Atoms, Fun, _<_, _^_, Given, ‵, raw, _⊛_, _$_, _∵_, !, qed, by, move, use1, split, fsplit, fjoin, suffices, frame, agg, look, init, forget, stop, from, load, and-then, no-more, assigns, returns, enter, alloc1, alloc0, params1, pass1, pass0, free1, free0, owns, Is, uint-makes, uint-vals, uint-tells, u8, usize, RefT, NamedLft, plain, namedLft, sliceVal, ShrSlice, slice-vals, shr-slice-tells, shr-slice-lawful, shr-slice-copy, nothing, owned, own-shut, onEntry, says, Stays, stay-none, stay-none-slice, walkOf, goes-none, goes-none-slice, Walks, ends-at, walked, yes}
 use contract.Running.{tablesOf}
 use Rattle.records.proofs.Closing.{close}
 use Rattle.records.specs.declared.reader.Reader.{Reader}

@@ -1,19 +1,20 @@
 -- `push_row` meets its contract: a walk of its MIR, with one loop. The row's shared borrow is looked into once, before the loop, and shut once, after it.
 -- The loop's invariant: what the whole pass comes to is what the records that are left come to from here.
 -- Each turn reads one record, and lends the output to `push_record`, which hands it back.
-use Rattle.records.proofs.Names.{_≡_, refl, sym, ap, subst, _∙_, ℕ, zero, suc, _+_, _*_, _≤_, _<_, _^_, arith, Bool, true, false, List, [], _∷_, lit<, length, getD, Nat·lt-wfRel, URA, fullShare, Ty, named, erased, w8, w64, tyInt, tyPtr, tyBool, tyRef, Val, vint, vptr, vbool, SProp, ent, sep, ex, emp, via, fst∗, id⊢, Lft, Share, GName, Fml, ftrue, fat, flft, fobor, fshr-bor, Memory, Routine, Heap, Env, Tables, WpFn, Atoms, sem, Fun, fact, tables, Given, Item, Seq, Go, runs, atRet, anyQ, ‵, raw, _⊛_, ⋆, some, later, _$_, _∵_, !, qed, by, move, keep, drop, use1, split, join, pick, rewrite, fsplit, fjoin, feqL, suffices, frame, await, done, agg, whole, sub, look-in, look, look-raw, init, store, forget, stop, hop, fld, from, load, lit, addr, of-opd, bin, and-then, no-more, assigns, assigns-last, blocks, first, stays, leaves-loop, land, returns, enter, alloc1, alloc0, params1, pass1, pass0, free1, free0, exec, loops, again, Below, fmOf, RattleType, owns, pointee, shares, Is, shows, uint-makes, uint-vals, uint-tells, u8, usize, RefT, now, plain, sliceVal, sliceTy, MutSlice, ShrSlice, Room, finally, slice-vals, shr-slice-tells, shr-slice-lawful, shr-slice-copy, mut-slice-tells, place-is, row, elem-out, elem-back, looks-slice, shuts-slice, only, owned, peeks, heard, nothing, Contract, Triple, cited, onEntry, tripleOf, lasts, Lasts, says, needs, Stays, stay-none, stay-slice, stay-none-slice, walkOf, goes-none, goes-slice, goes-none-slice, Walks, ends-at, walked, yes}
+use Rattle.records.proofs.Names.{_≡_, refl, sym, ap, subst, ℕ, zero, suc, _+_, _≤_, _<_, _^_, arith, Bool, List, [], _∷_, lit<, length, getD, Nat·lt-wfRel, URA, fullShare, Ty, named, erased, w8, w64, tyInt, tyPtr, tyBool, tyRef, Val, vint, vptr, vbool, SProp, ent, ex, id⊢, Lft, Share, GName, Fml, ftrue, fat, flft, fobor, fshr-bor, Memory, Routine, Heap, Env, Tables, WpFn, Atoms, Fun, fact, tables, Given, Item, Seq, Go, runs, atRet, anyQ, ‵, raw, _⊛_, ⋆, some, later, _$_, _∵_, !, qed, by, move, keep, drop, use1, split, join, pick, rewrite, fsplit, fjoin, feqL, suffices, frame, await, done, agg, whole, sub, look-in, look, look-raw, init, store, forget, stop, hop, fld, from, load, lit, addr, of-opd, bin, and-then, no-more, assigns, assigns-last, blocks, first, stays, leaves-loop, land, returns, enter, alloc1, alloc0, params1, pass1, pass0, free1, free0, exec, loops, again, Below, fmOf, RattleType, owns, pointee, shares, Is, shows, uint-makes, uint-vals, uint-tells, u8, usize, RefT, now, plain, sliceVal, sliceTy, MutSlice, ShrSlice, Room, finally, slice-vals, shr-slice-tells, shr-slice-lawful, shr-slice-copy, mut-slice-tells, place-is, row, elem-out, elem-back, looks-slice, shuts-slice, only, owned, peeks, heard, nothing, Contract, Triple, cited, onEntry, tripleOf, lasts, Lasts, says, needs, Stays, stay-none, stay-slice, stay-none-slice, walkOf, goes-none, goes-slice, goes-none-slice, Walks, ends-at, walked, yes}
 use contract.Running.{tablesOf}
 use prog.Wp.{afterSeq, afterBlock, afterTurn, atReturn, Wp, Out}
 use mir.Syntax.{imm, mut}
-use mathlib.Core.WellFounded.{WellFounded, InvImage·wf}
+use mathlib.Core.WellFounded.{InvImage·wf}
 use lib.ListN.{take}
 use borrow.Author.Tests.{lt-ltb, le-ltb}
 use base.Logic.{guard}
 use types.Kit.{updating, now as at-once, show, check}
 use types.Share.{arr-parts}
 use Rattle.records.proofs.Closing.{close}
-use Rattle.records.proofs.Lending.{slice, Kept, calls-lent}
+use Rattle.records.proofs.Lending.{slice, calls-lent}
 use Rattle.records.proofs.Locals.{Cell, Hole, Dies}
+use Rattle.records.proofs.Turns.{slot-fits, next-fits, one-on, sooner}
 use Rattle.records.proofs.Passes.{Passing, pass-starts, pass-on, pass-ends}
 use denote.Struct.Laws as LL
 use Rattle.rules.specs.declared.head.Head.{Head}
@@ -56,19 +57,6 @@ outTy = sliceTy (tyRef (named 1) mut (tyInt w8))
 
 abbrev byteTy : Ty
 byteTy = tyRef erased mut (tyInt w8)
-
--- arithmetic of a slot's place, and of the turns
-slot-fits : {i m : ℕ} → i < m → m * 12 < 2 ^ 63 → i * 12 < 2 ^ 64
-slot-fits less room = omega arith
-
-next-fits : {i m : ℕ} → i < m → m < 2 ^ 64 → i + 1 < 2 ^ 64
-next-fits less room = omega arith
-
-one-on : (i left n m : ℕ) → left ≡ suc n → i + left ≡ m → i + 1 + n ≡ m
-one-on i left n m e sum = omega arith
-
-sooner : {left n : ℕ} → left ≡ suc n → n < left
-sooner e = omega arith
 
 -- what stands for a record where there is none
 abbrev empty : Record

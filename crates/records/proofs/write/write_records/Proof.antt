@@ -1,14 +1,14 @@
 -- `write_records` meets its contract: a walk of its MIR, five calls in a row. The output is lent three times, and comes back each time at what the callee left.
 -- All that the proof knows of the callees is that each meets its contract; `Passes.writes` puts what they say together.
-use Rattle.records.proofs.Names.{_≡_, refl, sym, ap, subst, _∙_, ℕ, _+_, _≤_, _<_, _^_, List, [], _∷_, length, URA, fullShare, Ty, named, erased, w8, w64, tyInt, tyRef, Val, vint, SProp, ent, sep, ex, emp, via, fst∗, id⊢, Lft, Share, GName, Fml, ftrue, fat, flft, Memory, Routine, Heap, Tables, WpFn, Atoms, sem, Fun, fact, tables, Given, Item, ‵, raw, _⊛_, ⋆, some, later, _$_, _∵_, !, qed, by, move, keep, drop, use1, use2, split, join, pick, rewrite, fsplit, fjoin, feqL, suffices, frame, await, done, agg, whole, sub, look-in, look, init, forget, stop, hop, fld, from, load, addr, of-opd, and-then, no-more, assigns, land, returns, enter, alloc1, alloc0, params1, pass1, pass0, free1, free0, fmOf, RattleType, owns, Is, shows, uint-makes, u8, usize, RefT, now, plain, sliceVal, sliceTy, MutSlice, ShrSlice, Room, finally, slice-vals, shr-slice-tells, shr-slice-lawful, shr-slice-copy, mut-slice-tells, only, owned, peeks, heard, nothing, Contract, Triple, cited, onEntry, tripleOf, lasts, Lasts, says, Stays, stay-slice, stay-none-slice, walkOf, goes-slice, goes-none-slice, Walks, ends-at, walked, yes}
+use Rattle.records.proofs.Names.{_≡_, refl, sym, ap, subst, _∙_, ℕ, _≤_, _<_, _^_, List, [], _∷_, length, URA, fullShare, Ty, named, erased, w8, w64, tyInt, tyRef, Val, vint, SProp, ent, ex, emp, via, fst∗, id⊢, Lft, Share, GName, Fml, ftrue, fat, flft, Memory, Routine, Heap, Tables, WpFn, Atoms, sem, Fun, fact, tables, Given, ‵, raw, _⊛_, ⋆, some, later, _$_, _∵_, !, qed, by, move, keep, drop, use1, use2, split, join, pick, rewrite, fsplit, fjoin, feqL, suffices, frame, await, done, agg, whole, sub, look-in, look, init, forget, stop, hop, fld, from, load, addr, of-opd, and-then, no-more, assigns, land, returns, enter, alloc1, alloc0, params1, pass1, pass0, free1, free0, fmOf, RattleType, owns, Is, shows, uint-makes, u8, usize, RefT, now, plain, sliceVal, sliceTy, MutSlice, ShrSlice, Room, finally, slice-vals, shr-slice-tells, shr-slice-lawful, shr-slice-copy, mut-slice-tells, only, owned, peeks, heard, nothing, Contract, Triple, cited, onEntry, tripleOf, lasts, Lasts, says, Stays, stay-slice, stay-none-slice, walkOf, goes-slice, goes-none-slice, Walks, ends-at, walked, yes}
 use contract.Running.{tablesOf}
-use mir.Syntax.{imm, mut}
+use mir.Syntax.{mut}
 use lib.ListN.{take}
 use base.Logic.{guard}
 use types.Kit.{updating, now as at-once, show, check}
 use Rattle.records.proofs.Closing.{close}
 use Rattle.records.proofs.Calling.{calls-to}
-use Rattle.records.proofs.Lending.{slice, Kept, calls-lent}
+use Rattle.records.proofs.Lending.{slice, calls-lent}
 use Rattle.records.proofs.Passes.{turns-within, writes}
 use denote.Struct.Laws as LL
 use Rattle.rules.specs.declared.head.Head.{Head}
