@@ -1,0 +1,11 @@
+pub mod Answers
+pub mod Calling
+pub mod Closing
+pub mod Filling
+pub mod Lending
+pub mod Locals
+pub mod Names
+pub mod OfReader
+pub mod OfRows
+pub mod Passes
+pub mod Turns

@@ -1,0 +1,4 @@
+pub mod Reading
+pub mod Rows
+pub mod Told
+pub mod Written

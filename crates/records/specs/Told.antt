@@ -1,0 +1,56 @@
+-- What each case of the code's answers says, in document 01's number and values.
+use Prim.Native.Nat.{ℕ}
+use mathlib.Core.Path.{_≡_}
+use mathlib.Core.List.{List}
+use lib.ListN.{length}
+use denote.Ref.{now}
+use Rattle.number.specs.Answer.{Answer, over}
+use Rattle.number.specs.Answer.Answer.{gives, refuses}
+use Rattle.bundle.specs.declared.facts.Facts.{Facts}
+use Rattle.records.specs.Reading.{Found, Stepped, readerStep}
+use Rattle.records.specs.Reading.Found.{fact, done}
+use Rattle.records.specs.Rows.{handRecords, rowAfter}
+use Rattle.records.specs.declared.step.Started.{Started}
+use Rattle.records.specs.declared.step.Started.the-variants.{At, Refused as RefusedStart}
+use Rattle.records.specs.declared.step.Yield.{Yield}
+use Rattle.records.specs.declared.step.Yield.the-variants.{Fact, Refused as RefusedYield, Done}
+use Rattle.records.specs.declared.step.Step.{Step}
+use Rattle.records.specs.declared.reader.Reader.{Reader}
+use Rattle.records.specs.declared.record.Record.{Record}
+use Rattle.records.specs.declared.hand.Handed.{Handed}
+use Rattle.records.specs.declared.hand.Hand.{Hand}
+
+-- a start: the place after the count, or the refusal
+abbrev pub startTold : Started → Answer ℕ
+startTold (At at) = gives at
+startTold (RefusedStart r) = refuses r
+
+-- a yield: the fact, that it is done, or the refusal
+abbrev pub yieldTold : Yield → Answer Found
+yieldTold (Fact f) = gives (fact f)
+yieldTold (RefusedYield r) = refuses r
+yieldTold Done = gives done
+
+abbrev pub stepTold : Step → Stepped
+stepTold s = record { yields = yieldTold (s .yields); next = s .next }
+
+-- one step of a reader: what it yields, the same bundle, and the next byte afterwards
+pub record Steps (before : Reader) (y : Yield) (after : Reader) : Type 0 where
+  pub yields : yieldTold y ≡ readerStep (now (before .src)) (before .at) .yields
+  pub bundle : after .src ≡ before .src
+  pub next : after .at ≡ readerStep (now (before .src)) (before .at) .next
+
+-- an answer to the handing out: the count, or the refusal's number, side and place
+abbrev pub handed : Answer ℕ → Handed
+handed (gives count) = record { number = 0; side = 0; place = 0; count = count }
+handed (refuses r) = record { number = r .number; side = r .side; place = r .place; count = 0 }
+
+-- what is handed out, with the answer: nothing where there is a refusal
+abbrev pub decided : Answer Facts → Hand
+decided (gives b) = record { count = b .count; start = b .start; handed = handed (gives (b .count)) }
+decided (refuses r) = record { count = 0; start = 0; handed = handed (refuses r) }
+
+-- handing the facts out: the answer, and the lent row afterwards
+pub record Hands (rules bundle : List ℕ) (row : List Record) (r : Handed) (row′ : List Record) : Type 0 where
+  pub answer : r ≡ handed (over length (handRecords rules bundle (length row)))
+  pub memory : row′ ≡ rowAfter row (handRecords rules bundle (length row))

@@ -1,0 +1,119 @@
+// Handing a bundle's facts out as a lent row of records.
+ghost use mathlib.Core.Path.{_≡_};
+ghost use Rattle.records.specs.Rows.{handOut, takeAt};
+ghost use Rattle.number.specs.Answer.Answer.{refuses};
+ghost use Rattle.records.specs.Told.{decided, Hands};
+use crate::record::Record;
+use bundle::BundleRead;
+use bundle::FactRead;
+use bundle::any_fact_at;
+use bundle::check_bundle;
+use number::Refusal;
+use rules::RulesRead;
+use rules::check_rules;
+
+// The answer: how many records were handed out, or the refusal, whose number is not 0.
+#[repr(C)]
+pub struct Handed {
+    pub number: u32,
+    pub side: u32,
+    pub place: usize,
+    pub count: usize,
+}
+
+// What is handed out: so many facts from a place of the bundle, none where there is a refusal.
+pub struct Hand {
+    pub count: usize,
+    pub start: usize,
+    pub handed: Handed,
+}
+
+// One record of the bundle, and the place after it.
+pub struct Taken {
+    pub slot: Record,
+    pub next: usize,
+}
+
+fn refuse(r: Refusal) -> Hand
+    ensures { λ h. ⌜ h ≡ decided (refuses r) ⌝ }
+{
+    Hand {
+        count: 0,
+        start: 0,
+        handed: Handed {
+            number: r.number,
+            side: r.side,
+            place: r.place,
+            count: 0,
+        },
+    }
+}
+
+// The order of refusals: rules, bundle, room.
+pub fn decide(rules: &[u8], bundle: &[u8], room: usize) -> Hand
+    ensures { λ r. ⌜ r ≡ decided (handOut (now (rules .entry)) (now (bundle .entry)) room) ⌝ }
+{
+    match check_rules(rules) {
+        RulesRead::Refused(r) => refuse(r),
+        RulesRead::Accepted(head) => match check_bundle(bundle, head) {
+            BundleRead::Refused(r) => refuse(r),
+            BundleRead::Accepted(facts) => {
+                let count = facts.count as usize;
+                if room < count {
+                    return refuse(Refusal {
+                        number: Refusal::ROOM,
+                        side: Refusal::CALL,
+                        place: 0,
+                    });
+                }
+                Hand {
+                    count,
+                    start: facts.start,
+                    handed: Handed {
+                        number: 0,
+                        side: 0,
+                        place: 0,
+                        count,
+                    },
+                }
+            }
+        },
+    }
+}
+
+// The record of the fact at a place; an empty one where there is no fact.
+pub fn take_at(bundle: &[u8], at: usize) -> Taken
+    ensures { λ r. ⌜ r ≡ takeAt (now (bundle .entry)) at ⌝ }
+{
+    match any_fact_at(bundle, at) {
+        FactRead::Read(fact, next) => Taken {
+            slot: Record::of(fact),
+            next,
+        },
+        FactRead::Refused(_) => Taken {
+            slot: Record {
+                predicate: 0,
+                subject: 0,
+                object: 0,
+            },
+            next: at,
+        },
+    }
+}
+
+// "The console receives the facts as a lent row of fact records".
+pub fn hand_records(rules: &[u8], bundle: &[u8], row: &mut [Record]) -> Handed
+    ensures { λ r. ⌜ Hands (now (rules .entry)) (now (bundle .entry)) (now (row .entry)) r (now (row .exit)) ⌝ }
+{
+    let hand = decide(rules, bundle, row.len());
+    let count = hand.count;
+    let mut at = hand.start;
+    let mut i = 0;
+    while i < count {
+        let taken = take_at(bundle, at);
+        row[i] = taken.slot;
+        at = taken.next;
+        i += 1;
+    }
+    hand.handed
+}

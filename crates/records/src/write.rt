@@ -1,0 +1,146 @@
+// Writing a row of records as a bundle: a first pass over the row judges and measures, a second stores.
+ghost use mathlib.Core.Path.{_≡_};
+ghost use Prim.Native.Nat.{_≤_};
+ghost use lib.ListN.{length, take};
+ghost use Rattle.number.specs.Answer.Answer.{refuses};
+ghost use Rattle.bundle.specs.Pushed.{Pushes, wroteTold};
+ghost use Rattle.records.specs.Rows.{factOf};
+ghost use Rattle.records.specs.Written.{opened, PushesRow, TurnsOver, ended, wroteRow, WritesRow};
+use crate::record::Record;
+use bundle::BundleWrote;
+use bundle::Writing;
+use bundle::begin;
+use bundle::push;
+use number::Refusal;
+use rules::Head;
+use rules::RulesRead;
+use rules::check_rules;
+
+// The answer: the length of the bundle that was written, or the refusal, whose number is not 0.
+#[repr(C)]
+pub struct WroteRow {
+    pub number: u32,
+    pub side: u32,
+    pub place: usize,
+    pub length: usize,
+}
+
+// How a writing starts: the rules' head and the first pass, or the rules' refusal and no turns.
+pub struct Opening {
+    pub accepted: bool,
+    pub refusal: Refusal,
+    pub head: Head,
+    pub turns: usize,
+    pub first: Writing,
+}
+
+// The rules are judged first.
+pub fn open_row(rules: &[u8], records: usize, room: usize) -> Opening
+    ensures { λ r. ⌜ r ≡ opened (now (rules .entry)) records room ⌝ }
+{
+    match check_rules(rules) {
+        RulesRead::Refused(r) => Opening {
+            accepted: false,
+            refusal: r,
+            head: Head {
+                concepts: 0,
+                roles: 0,
+                rules: 0,
+                start: 0,
+            },
+            turns: 0,
+            first: Writing::start(0, 0, false),
+        },
+        RulesRead::Accepted(head) => Opening {
+            accepted: true,
+            refusal: Refusal {
+                number: 0,
+                side: 0,
+                place: 0,
+            },
+            head,
+            turns: records,
+            first: Writing::start(records, room, false),
+        },
+    }
+}
+
+// One more record of a pass.
+pub fn push_record(out: &mut [u8], writing: Writing, head: Head, slot: Record) -> Writing
+    ensures { λ r. ⌜ Pushes head (now (out .entry)) writing (factOf slot) r (now (out .exit)) ⌝ }
+{
+    push(out, writing, head, slot.fact())
+}
+
+// One pass over so many records of a row.
+pub fn push_row(row: &[Record], turns: usize, out: &mut [u8], head: Head, start: Writing) -> Writing
+    requires { ⌜ turns ≤ length (now row) ⌝ }
+    ensures { λ r. ⌜ PushesRow head (take turns (now (row .entry))) (now (out .entry)) start r (now (out .exit)) ⌝ }
+{
+    let mut writing = start;
+    let mut i = 0;
+    while i < turns {
+        let slot = row[i];
+        writing = push_record(out, writing, head, slot);
+        i += 1;
+    }
+    writing
+}
+
+// Between the two passes; nothing happens if the rules were refused.
+pub fn turn_over(out: &mut [u8], opening: Opening, first: Writing) -> Writing
+    ensures { λ r. ⌜ TurnsOver opening (now (out .entry)) first r (now (out .exit)) ⌝ }
+{
+    if opening.accepted {
+        return begin(out, opening.turns, first);
+    }
+    first
+}
+
+fn refused(r: Refusal) -> WroteRow
+    ensures { λ w. ⌜ w ≡ wroteRow (refuses r) ⌝ }
+{
+    WroteRow {
+        number: r.number,
+        side: r.side,
+        place: r.place,
+        length: 0,
+    }
+}
+
+fn wrote(answer: BundleWrote) -> WroteRow
+    ensures { λ r. ⌜ r ≡ wroteRow (wroteTold answer) ⌝ }
+{
+    match answer {
+        BundleWrote::Written(length) => WroteRow {
+            number: 0,
+            side: 0,
+            place: 0,
+            length,
+        },
+        BundleWrote::Refused(r) => refused(r),
+    }
+}
+
+// What the writing comes to.
+pub fn end_row(opening: Opening, last: Writing) -> WroteRow
+    ensures { λ r. ⌜ r ≡ ended opening last ⌝ }
+{
+    if opening.accepted {
+        return wrote(last.answer());
+    }
+    refused(opening.refusal)
+}
+
+// "and hands such a row back to be written".
+pub fn write_records(rules: &[u8], row: &[Record], out: &mut [u8]) -> WroteRow
+    ensures { λ r. ⌜ WritesRow (now (rules .entry)) (now (row .entry)) (now (out .entry)) r (now (out .exit)) ⌝ }
+{
+    let opening = open_row(rules, row.len(), out.len());
+    let turns = opening.turns;
+    let head = opening.head;
+    let first = push_row(row, turns, out, head, opening.first);
+    let second = turn_over(out, opening, first);
+    let last = push_row(row, turns, out, head, second);
+    end_row(opening, last)
+}
