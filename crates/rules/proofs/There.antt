@@ -42,9 +42,6 @@ module _ {A : Type 0} (P : A → Type 0) where
   pub given-gives : (a : A) → P a → Given (gives a)
   given-gives a p x e = rw (given-once e) at p
 
-  pub given-refuses : (number side place : ℕ) → Given (refuses (refusal number side place))
-  given-refuses number side place x e = absurd (never e)
-
   pub given-test : (t : Bool) (a b : Answer A) → Given a → Given b → Given (cond t a b)
   given-test true a b first other = first
   given-test false a b first other = other
