@@ -1,8 +1,5 @@
 #!/usr/bin/env bash
-# The main job on the worked site. The program is still to come: until it is there, what is proved of the site is shown.
+# The main job on the worked site: the program is proved and built, then run where the site's two files stand.
 cd "$(dirname "$0")/.." || exit 2
-if grep -q '^cleaner:' crates.txt; then
-  rt check cleaner && (cd crates/cleaner/data && ../../../target/bin/cleaner)
-else
-  echo "The program cleaner is still to come. What stands so far is proved, not run: see README.md, and type make test."
-fi
+root=$PWD
+rt check cleaner && cd crates/cleaner/data && "$root/tests/x86.sh" run "$root/target/bin/cleaner"

@@ -21,7 +21,8 @@ use Rattle.bundle.specs.Bundle.Last.{none}
 use Rattle.bundle.specs.Lawful.{LawfulFact, LawfulFrom, LawfulFacts}
 use Rattle.bundle.specs.Lawful.LawfulFrom.{done, next}
 use Rattle.bundle.specs.declared.facts.Facts.{Facts}
-use Rattle.bundle.proofs.Runs.{never, same-given, passed, went, ObjectThere, FactThere, Run, walk-there, any-run, FactNumbered, run-numbered}
+use Rattle.number.proofs.Answers.{never, given-once as same-given, passed, went}
+use Rattle.bundle.proofs.Runs.{ObjectThere, FactThere, Run, walk-there, any-run, FactNumbered, run-numbered}
 use Rattle.bundle.proofs.Runs.ObjectThere.{of-concept, of-role}
 use Rattle.bundle.proofs.Runs.Run.{stop, more}
 
@@ -56,10 +57,10 @@ pub record CountThere (s : List ℕ) (at limit side : ℕ) (n : Read ℕ) : Type
 pub count-there : (s : List ℕ) (at limit side : ℕ) (n : Read ℕ) → countAt s at limit side ≡ gives n → CountThere s at limit side n
 unfolding countAt
 count-there s at limit side n e =
-    let w = went (numberAt s at mostNumber side) (λ m. cond (leb (m .value) limit) (gives m) (refuses (refusal 4 side at))) n e in
-    let t = passed (leb (w .mid .value) limit) (gives (w .mid)) (refusal 4 side at) n (w .rest) in
-    let same : w .mid ≡ n = same-given (t .result) in
-    record { number = w .first ∙ t .result; within = rw same at (leb-true (w .mid .value) limit (t .holds)) }
+    let w = went (numberAt s at mostNumber side) (λ m. cond (leb (m .value) limit) (gives m) (refuses (refusal 4 side at))) e in
+    let t = passed (leb (w .value .value) limit) (gives (w .value)) (refusal 4 side at) (w .rest) in
+    let same : w .value ≡ n = same-given (t .answer) in
+    record { number = w .first ∙ t .answer; within = rw same at (leb-true (w .value .value) limit (t .test)) }
 
 -- nothing stands after the last item
 pub end-there : (s : List ℕ) (at side end : ℕ) → endAt s at side ≡ gives end → length s ≤ at
@@ -85,19 +86,19 @@ module _ (h : Head) (s : List ℕ) (b : Facts) (e : checkBundle h s ≡ gives b)
   bundle-there =
       let k₃ : ℕ → ℕ → ℕ → Answer Facts = λ count start end. gives (record { count = count; start = start }) in
       let k₂ : Read ℕ → ℕ → Answer Facts = λ n end. endAt s end 1 then k₃ (n .value) (n .next) in
-      let w = went (countAt s 0 mostFacts 1) (λ n. factsFrom (predicateKnown h) s none (n .value) (n .next) then k₂ n) b e in
-      let v = went (factsFrom (predicateKnown h) s none (w .mid .value) (w .mid .next)) (k₂ (w .mid)) b (w .rest) in
-      let u = went (endAt s (v .mid) 1) (k₃ (w .mid .value) (w .mid .next)) b (v .rest) in
-      let same : record { count = w .mid .value; start = w .mid .next } ≡ b = same-given (u .rest) in
-      let c = count-there s 0 mostFacts 1 (w .mid) (w .first) in
-      let r = walk-there (predicateKnown h) s none (w .mid .value) (w .mid .next) (v .mid) (v .first) in
-      let there : BundleThere h s (record { count = w .mid .value; start = w .mid .next }) = record {
+      let w = went (countAt s 0 mostFacts 1) (λ n. factsFrom (predicateKnown h) s none (n .value) (n .next) then k₂ n) e in
+      let v = went (factsFrom (predicateKnown h) s none (w .value .value) (w .value .next)) (k₂ (w .value)) (w .rest) in
+      let u = went (endAt s (v .value) 1) (k₃ (w .value .value) (w .value .next)) (v .rest) in
+      let same : record { count = w .value .value; start = w .value .next } ≡ b = same-given (u .rest) in
+      let c = count-there s 0 mostFacts 1 (w .value) (w .first) in
+      let r = walk-there (predicateKnown h) s none (w .value .value) (w .value .next) (v .value) (v .first) in
+      let there : BundleThere h s (record { count = w .value .value; start = w .value .next }) = record {
         count-number = c .number;
         count-within = c .within;
-        end = v .mid;
+        end = v .value;
         run = r .run;
         count = r .count;
-        at-end = end-there s (v .mid) 1 (u .mid) (u .first);
+        at-end = end-there s (v .value) 1 (u .value) (u .first);
       } in
       rw same at there
 

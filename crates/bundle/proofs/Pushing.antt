@@ -25,7 +25,7 @@ use Rattle.bundle.specs.Pushed.{started, overfull, startOf, faultOf, sto
 use Rattle.bundle.specs.declared.writing.Writing.{Writing}
 use Rattle.bundle.proofs.Longest.{declared-low}
 use Rattle.bundle.proofs.Reading.{before-first}
-use Rattle.bundle.proofs.Runs.{never}
+use Rattle.number.proofs.Answers.{never}
 use Rattle.bundle.proofs.Storing.{sets-append}
 
 -- the fact before, after a fact

@@ -19,7 +19,8 @@ use Rattle.rules.specs.declared.head.Head.{Head}
 use Rattle.bundle.specs.Bundle.{Last, factAt, ascends, factsFrom, predicateKnown, checkBundle}
 use Rattle.bundle.specs.Bundle.Last.{none, after}
 use Rattle.bundle.specs.Told.{factRest}
-use Rattle.bundle.proofs.Runs.{never, code-there, ObjectThere, FactThere, fact-there, fact-by-rest, Run, walk-there}
+use Rattle.number.proofs.Answers.{never}
+use Rattle.bundle.proofs.Runs.{code-there, ObjectThere, FactThere, fact-there, fact-by-rest, Run, walk-there}
 use Rattle.bundle.proofs.Runs.ObjectThere.{of-concept, of-role}
 use Rattle.bundle.proofs.Runs.Run.{stop, more}
 use Rattle.bundle.proofs.Accepted.{count-there}

@@ -22,7 +22,8 @@ use Rattle.bundle.specs.Bundle.Last.{none}
 use Rattle.bundle.specs.Lawful.{LawfulFact, LawfulFrom, LawfulFacts}
 use Rattle.bundle.specs.Lawful.LawfulFrom.{done, next as one-more}
 use Rattle.bundle.specs.declared.facts.Facts.{Facts}
-use Rattle.bundle.proofs.Runs.{never, same-given, ObjectThere, FactThere, Run, run-walks, run-reads}
+use Rattle.number.proofs.Answers.{never, given-once as same-given}
+use Rattle.bundle.proofs.Runs.{ObjectThere, FactThere, Run, run-walks, run-reads}
 use Rattle.bundle.proofs.Runs.ObjectThere.{of-concept, of-role}
 use Rattle.bundle.proofs.Runs.Run.{stop, more}
 use Rattle.bundle.proofs.Accepted.{bundle-there}

@@ -17,38 +17,9 @@ use Rattle.site.specs.Kinds.{ofConcept}
 use Rattle.site.specs.Limits.{mostNumber, mostThing}
 use Rattle.bundle.specs.Bundle.{Last, factAt, ascends, factsFrom, factsIn}
 use Rattle.bundle.specs.Bundle.Last.{after}
+use Rattle.number.proofs.Answers.{never, given-once as same-given, passed, went}
 use Rattle.bundle.specs.Told.{factRest}
 
--- an answer is not both
-pub never : {A : Type 0} {r : Refusal} {a : A} → refuses r ≡ gives a → ⊥
-never e = let z : _≡_ {A = ℕ} 0 1 = cc in omega arith
-
-module _ {A : Type 0} where
-  -- what was given
-  pub same-given : {a b : A} → gives a ≡ gives b → a ≡ b
-  same-given e = cc
-
-  -- a test that let an answer through
-  pub record Passed (t : Bool) (x : Answer A) (b : A) : Type 0 where
-    pub holds : t ≡ true
-    pub result : x ≡ gives b
-
-  pub passed : (t : Bool) (x : Answer A) (r : Refusal) (b : A) → cond t x (refuses r) ≡ gives b → Passed t x b
-  passed true x r b e = record { holds = refl; result = e }
-  passed false x r b e = absurd (never e)
-
-module _ {A B : Type 0} where
-  -- an answer that went on
-  pub record Went (a : Answer A) (k : A → Answer B) (b : B) : Type 0 where
-    pub mid : A
-    pub first : a ≡ gives mid
-    pub rest : k mid ≡ gives b
-
-  pub went : (a : Answer A) (k : A → Answer B) (b : B) → (a then k) ≡ gives b → Went a k b
-  went (gives x) k b e = record { mid = x; first = refl; rest = e }
-  went (refuses r) k b e = absurd (never e)
-
--- a code that is there
 pub record CodeThere (s : List ℕ) (at : ℕ) (known : ℕ → Bool) (side : ℕ) (p : Read ℕ) : Type 0 where
   pub number : numberAt s at mostNumber side ≡ gives p
   pub holds : known (p .value) ≡ true
@@ -56,9 +27,9 @@ pub record CodeThere (s : List ℕ) (at : ℕ) (known : ℕ → Bool) (side : �
 pub code-there : (s : List ℕ) (at : ℕ) (known : ℕ → Bool) (side : ℕ) (p : Read ℕ) → codeAt s at known side ≡ gives p → CodeThere s at known side p
 unfolding codeAt
 code-there s at known side p e =
-    let w = went (numberAt s at mostNumber side) (λ n. cond (known (n .value)) (gives n) (refuses (refusal 5 side at))) p e in
-    let t = passed (known (w .mid .value)) (gives (w .mid)) (refusal 5 side at) p (w .rest) in
-    record { number = w .first ∙ t .result; holds = ap (λ m. known (m .value)) (sym (same-given (t .result))) ∙ t .holds }
+    let w = went (numberAt s at mostNumber side) (λ n. cond (known (n .value)) (gives n) (refuses (refusal 5 side at))) e in
+    let t = passed (known (w .value .value)) (gives (w .value)) (refusal 5 side at) (w .rest) in
+    record { number = w .first ∙ t .answer; holds = ap (λ m. known (m .value)) (sym (same-given (t .answer))) ∙ t .test }
 
 -- the object of a fact: none for a concept's, and a number for a role's
 pub data ObjectThere (s : List ℕ) (place : ℕ) (f : Fact) (next : ℕ) : Type 0 where
@@ -116,9 +87,9 @@ module _ (s : List ℕ) (predicate : ℕ) (a : Read ℕ) (f : Fact) (next : ℕ)
         object = of-concept (ap ofConcept (sym is-f) ∙ is) (sym (ap (λ g. g .object) is-f)) (sym (ap (λ r. r .next) same));
       }
   by-kind false is e =
-      let w = went (numberAt s (a .next) mostThing 1) (λ b. gives (readOf (factOf predicate (a .value) (b .value)) (b .next))) (readOf f next) e in
-      let same : readOf (factOf predicate (a .value) (w .mid .value)) (w .mid .next) ≡ readOf f next = same-given (w .rest) in
-      let is-f : factOf predicate (a .value) (w .mid .value) ≡ f = ap (λ r. r .value) same in
+      let w = went (numberAt s (a .next) mostThing 1) (λ b. gives (readOf (factOf predicate (a .value) (b .value)) (b .next))) e in
+      let same : readOf (factOf predicate (a .value) (w .value .value)) (w .value .next) ≡ readOf f next = same-given (w .rest) in
+      let is-f : factOf predicate (a .value) (w .value .value) ≡ f = ap (λ r. r .value) same in
       record {
         same-predicate = ap (λ g. g .predicate) is-f;
         same-subject = ap (λ g. g .subject) is-f;
@@ -129,17 +100,17 @@ module _ (known : ℕ → Bool) (s : List ℕ) (at : ℕ) (f : Fact) (next : ℕ
   -- what is known of a fact that was read
   pub fact-there : factAt known s at ≡ gives (record { value = f; next = next }) → FactThere known s at f next
   fact-there e =
-      let w = went (codeAt s at known 1) (λ p. factRest s (p .value) (p .next)) (record { value = f; next = next }) (sym (fact-by-rest known s at) ∙ e) in
-      let p = w .mid in
+      let w = went (codeAt s at known 1) (λ p. factRest s (p .value) (p .next)) (sym (fact-by-rest known s at) ∙ e) in
+      let p = w .value in
       let c = code-there s at known 1 p (w .first) in
-      let v = went (numberAt s (p .next) mostThing 1) (λ a. factObject s (p .value) a) (record { value = f; next = next }) (sym (rest-by-object s (p .value) (p .next)) ∙ w .rest) in
-      let o = by-kind s (p .value) (v .mid) f next (ltb (p .value) 64) refl (v .rest) in
+      let v = went (numberAt s (p .next) mostThing 1) (λ a. factObject s (p .value) a) (sym (rest-by-object s (p .value) (p .next)) ∙ w .rest) in
+      let o = by-kind s (p .value) (v .value) f next (ltb (p .value) 64) refl (v .rest) in
       record {
         place-of-subject = p .next;
-        place-of-object = v .mid .next;
+        place-of-object = v .value .next;
         holds = ap known (sym (o .same-predicate)) ∙ c .holds;
         predicate = c .number ∙ ap (λ x. gives (record { value = x; next = p .next })) (o .same-predicate);
-        subject = v .first ∙ ap (λ x. gives (record { value = x; next = v .mid .next })) (o .same-subject);
+        subject = v .first ∙ ap (λ x. gives (record { value = x; next = v .value .next })) (o .same-subject);
         object = o .object;
       }
 
@@ -191,10 +162,10 @@ module _ (known : ℕ → Bool) (s : List ℕ) where
   unfolding factsFrom factsIn
   walk-there last zero at end e = record { run = rw (same-given e) stop; count = refl }
   walk-there last (suc n) at end e =
-      let w = went (factAt known s at) (λ f. cond (ascends last (f .value)) (factsFrom known s (after (f .value)) n (f .next)) (refuses (refusal 8 1 at))) end e in
-      let t = passed (ascends last (w .mid .value)) (factsFrom known s (after (w .mid .value)) n (w .mid .next)) (refusal 8 1 at) end (w .rest) in
-      one-more last n at (w .mid .value) (w .mid .next) end (fact-there known s at (w .mid .value) (w .mid .next) (w .first)) (t .holds)
-      (walk-there (after (w .mid .value)) n (w .mid .next) end (t .result))
+      let w = went (factAt known s at) (λ f. cond (ascends last (f .value)) (factsFrom known s (after (f .value)) n (f .next)) (refuses (refusal 8 1 at))) e in
+      let t = passed (ascends last (w .value .value)) (factsFrom known s (after (w .value .value)) n (w .value .next)) (refusal 8 1 at) (w .rest) in
+      one-more last n at (w .value .value) (w .value .next) end (fact-there known s at (w .value .value) (w .value .next) (w .first)) (t .test)
+      (walk-there (after (w .value .value)) n (w .value .next) end (t .answer))
 
   -- a run is accepted
   pub run-walks : {last : Last} {fs : List Fact} {at end : ℕ} → Run known s last fs at end → factsFrom known s last (length fs) at ≡ gives end

@@ -31,7 +31,7 @@ use Rattle.bundle.specs.Told.{lastOf, beforeFirst, afterFact}
 use Rattle.bundle.specs.Pushed.{StoresFact, StoredFact, started, overfull, startOf, faultOf, stopped, judged, settled, shortened, movedTo, placed, storedBy, Pushes, closed, secondStart, countStored, Begins, answerOf}
 use Rattle.bundle.specs.declared.before.Before.{Before}
 use Rattle.bundle.specs.declared.writing.Writing.{Writing}
-use Rattle.bundle.proofs.Runs.{never, same-given}
+use Rattle.number.proofs.Answers.{never, given-once as same-given}
 
 -- the size of a fact
 module _ (v w : ℕ) where

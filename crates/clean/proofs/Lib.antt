@@ -6,8 +6,10 @@ pub mod OfAnswers
 pub mod OfKept
 pub mod Cases
 pub mod OfTests
+pub mod OfAgreement
 pub mod OfAsking
 pub mod OfJudging
+pub mod OfKeeping
 pub mod OfRows
 pub mod OfSearch
 pub mod OfTypeCodes

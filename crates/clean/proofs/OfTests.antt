@@ -35,7 +35,7 @@ module _ (excluded : List ℕ) (x y : Typ) where
   jar-both e f r is = rw (eq-eqb (x .from) (y .from) e, eq-eqb (x .to) (y .to) f) is
 
 -- a test of what is coded
-any-map : {A B : Type 0} (p : B → Bool) (h : A → B) (l : List A) → any p (map h l) ≡ any (λ x. p (h x)) l
+pub any-map : {A B : Type 0} (p : B → Bool) (h : A → B) (l : List A) → any p (map h l) ≡ any (λ x. p (h x)) l
 unfolding any
 any-map p h [] = refl
 any-map p h (x ∷ xs) = ap (λ (b : Bool). p (h x) || b) (any-map p h xs)

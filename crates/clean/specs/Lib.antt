@@ -1,4 +1,5 @@
 pub mod Coded
+pub mod Keeping
 pub mod Marks
 pub mod Operations
 pub mod Tally

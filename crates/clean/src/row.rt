@@ -10,7 +10,7 @@ ghost use Rattle.clean.specs.Marks.{counts};
 ghost use Rattle.clean.specs.Tally.{Marks};
 ghost use Rattle.clean.specs.Coded.{bitsFollow};
 use crate::answers::Counts;
-use crate::judge::judge;
+use crate::verdict::judge;
 use bundle::FactRead;
 use bundle::Facts;
 use bundle::any_fact_at;

@@ -1,10 +1,10 @@
 -- Excluded is: kept apart by a written exclusion, or both within an empty node. A node is empty where arrows and step 8's mates lead from it to
 -- one that is kept apart from itself. Such ways carry step 8 by themselves, so no step has to be repeated.
-use mathlib.Core.Path.{_≡_, refl, sym, ap, subst, subst₂, _∙_}
-use mathlib.Core.Bool.{Bool, true, false, true≢false, false≢true, _&&_, _||_}
+use mathlib.Core.Path.{_≡_, refl, sym, ap, subst, _∙_}
+use mathlib.Core.Bool.{true, true≢false, false≢true, _||_}
 use mathlib.Core.Logic.{_⊎_, inl, inr}
-use mathlib.Core.List.{List, [], _∷_, List·Memᴰ, List·Memᴰ·head, List·Memᴰ·tail, List·Memᴰ·not-nil}
-use Rattle.site.specs.Kinds.{BasicRole, BasicConcept, Node, Rule, Site, turned, declared, declaredRole, sameRole}
+use mathlib.Core.List.{List·Memᴰ, List·Memᴰ·head, List·Memᴰ·tail, List·Memᴰ·not-nil}
+use Rattle.site.specs.Kinds.{BasicRole, Node, Rule, Site, turned, declared, declaredRole, sameRole}
 use Rattle.site.specs.Kinds.BasicConcept.{named, some}
 use Rattle.site.specs.Kinds.Node.{concept, role}
 use Rattle.site.specs.Kinds.Rule.{included, disjoint, roleIncluded, roleDisjoint, functional}
@@ -17,12 +17,10 @@ use Rattle.follows.specs.Steps.Included.{step-1, step-2, step-3}
 use Rattle.follows.specs.Steps.Excluded.{by-rule, step-5, step-6, step-7, step-8}
 use Rattle.follows.specs.Steps.OneOf.{itself, has, has-inverse}
 use Rattle.follows.specs.Tables.{Pair, Relation, writtenOf, arrow, mates, nodesOf}
-use Rattle.follows.specs.Closed.{Closed}
 use Rattle.follows.specs.Closed.Closed.{here, one, on}
-use Rattle.follows.proofs.Rows.{On}
 use Rattle.follows.proofs.Closing.{Reaches}
-use Rattle.follows.proofs.Declares.{node-in, node-out}
-use Rattle.follows.proofs.Laws.{Both, turnedNode, isRole, declared-turned, one-of-declared, declared-one-of, included-declared, excluded-declared, included-sort, excluded-within}
+use Rattle.follows.proofs.Declares.{node-in}
+use Rattle.follows.proofs.Laws.{turnedNode, declared-turned, one-of-declared, declared-one-of, included-declared, excluded-declared, included-sort, excluded-within}
 use Rattle.follows.proofs.Arrows.{Leads, both, roles-pair, arrow-included, included-leads}
 
 -- step 8's three are mates
@@ -102,7 +100,7 @@ module _ (s : Site) where
     by-void : (z : Node) → Included s x z → Included s y z → Void z → Kept x y
 
   -- each is excluded
-  written-excludes : (r : Rule) {w : Pair} → List·Memᴰ r (s .rules) → List·Memᴰ w (writtenOf r) → Excluded s (w .left) (w .right)
+  pub written-excludes : (r : Rule) {w : Pair} → List·Memᴰ r (s .rules) → List·Memᴰ w (writtenOf r) → Excluded s (w .left) (w .right)
   written-excludes (disjoint b c) m (List·Memᴰ·head e) = subst (λ w. Excluded s (w .left) (w .right)) (sym e) (by-rule m kind-1)
   written-excludes (disjoint b c) m (List·Memᴰ·tail n) = absurd (List·Memᴰ·not-nil n)
   written-excludes (roleDisjoint p q) m (List·Memᴰ·head e) = subst (λ w. Excluded s (w .left) (w .right)) (sym e) (by-rule m kind-3)
@@ -167,7 +165,7 @@ module _ (s : Site) where
 
   module _ (lawful : Lawful s) where
     -- mates lead on
-    mates-lead : (q : BasicRole) {x y : Node} → OneOf q x → OneOf q y → declaredRole s q ≡ true → LeadsOn x y
+    pub mates-lead : (q : BasicRole) {x y : Node} → OneOf q x → OneOf q y → declaredRole s q ≡ true → LeadsOn x y
     mates-lead q {x} {y} o p d =
         one (record {
           from = node-in s x (one-of-declared s q o d);

@@ -1,14 +1,14 @@
 -- Included is the closure of the rules' arrows. A closure of arrows can be turned, and taken to "has some partner", arrow by arrow: what a
 -- rule gives, it gives turned and of partners too.
 use mathlib.Core.Path.{_≡_, refl, sym, ap, subst, subst₂, _∙_}
-use mathlib.Core.Bool.{Bool, true, false, _&&_, _||_}
-use mathlib.Core.List.{List, [], _∷_, List·Memᴰ, List·Memᴰ·head, List·Memᴰ·tail, List·Memᴰ·not-nil}
-use Rattle.site.specs.Kinds.{BasicRole, BasicConcept, Node, Rule, Site, turned, declared, declaredRole, sameNode}
-use Rattle.site.specs.Kinds.BasicConcept.{named, some}
+use mathlib.Core.Bool.{true, _&&_}
+use mathlib.Core.List.{List, List·Memᴰ, List·Memᴰ·head, List·Memᴰ·tail, List·Memᴰ·not-nil}
+use Rattle.site.specs.Kinds.{BasicRole, Node, Rule, Site, declared, sameNode}
+use Rattle.site.specs.Kinds.BasicConcept.{some}
 use Rattle.site.specs.Kinds.Node.{concept, role}
 use Rattle.site.specs.Kinds.Rule.{included, disjoint, roleIncluded, roleDisjoint, functional}
 use Rattle.site.specs.Lists.{any}
-use Rattle.site.proofs.Lists.{Passing, any-found, any-of, and-left, and-right, and-both}
+use Rattle.site.proofs.Lists.{any-found, any-of, and-left, and-right, and-both}
 use Rattle.site.proofs.Same.{same-node, same-node-refl, turned-twice}
 use Rattle.rules.specs.Lawful.{Lawful}
 use Rattle.follows.specs.Steps.{SaysIncluded, Included}
@@ -20,7 +20,7 @@ use Rattle.follows.specs.Closed.Closed.{here, one, on}
 use Rattle.follows.proofs.Rows.{On}
 use Rattle.follows.proofs.Closing.{Reaches}
 use Rattle.follows.proofs.Declares.{node-in, node-out}
-use Rattle.follows.proofs.Laws.{Both, turnedNode, someNode, declared-turned, included-declared}
+use Rattle.follows.proofs.Laws.{turnedNode, someNode, declared-turned, included-declared}
 
 -- where an arrow comes from
 pub record Given (rules : List Rule) (x y : Node) : Type 0 where
@@ -48,7 +48,7 @@ module _ (rules : List Rule) where
         is-right = same-node ((g .one) .right) y (and-right l r (g .passes));
       }
 
-  arrow-of : {r : Rule} {a : Pair} → List·Memᴰ r rules → List·Memᴰ a (arrowsOf r) → arrow rules (a .left) (a .right) ≡ true
+  pub arrow-of : {r : Rule} {a : Pair} → List·Memᴰ r rules → List·Memᴰ a (arrowsOf r) → arrow rules (a .left) (a .right) ≡ true
   unfolding arrow
   arrow-of {r} {a} m n =
       any-of (λ r. any (λ b. sameNode (b .left) (a .left) && sameNode (b .right) (a .right)) (arrowsOf r)) m
@@ -91,11 +91,12 @@ arrows-some (disjoint b c) m = absurd (List·Memᴰ·not-nil m)
 arrows-some (roleDisjoint p q) m = absurd (List·Memᴰ·not-nil m)
 arrows-some (functional q) m = absurd (List·Memᴰ·not-nil m)
 
--- a closure taken along a function that keeps what it closes
-pub closed-map : {A : Type 0} {D : A → Type 0} {R : A → A → Type 0} (f : A → A) → ((x : A) → D x → D (f x)) → ((x y : A) → R x y → R (f x) (f y)) → {x y : A} → Closed D R x y → Closed D R (f x) (f y)
-closed-map f d r (here {x} m) = here (d x m)
-closed-map f d r (one {x} {y} h) = one (r x y h)
-closed-map f d r (on p q) = on (closed-map f d r p) (closed-map f d r q)
+-- a closure taken along a function into another closure
+pub closed-into : {A B : Type 0} {D : A → Type 0} {R : A → A → Type 0} {E : B → Type 0} {S : B → B → Type 0} (f : A → B) → ((x : A) → D x → E (f x)) → ((x y : A) → R x y → Closed E S (f x) (f y))
+    → {x y : A} → Closed D R x y → Closed E S (f x) (f y)
+closed-into f d r (here {x} m) = here (d x m)
+closed-into f d r (one {x} {y} h) = r x y h
+closed-into f d r (on p q) = on (closed-into f d r p) (closed-into f d r q)
 
 module _ (s : Site) where
   -- the closure of the arrows on the declared nodes
@@ -139,7 +140,7 @@ module _ (s : Site) where
         }
 
     leads-taken : {x y : Node} → Leads x y → Leads (f x) (f y)
-    leads-taken h = closed-map f node-taken arrow-taken h
+    leads-taken h = closed-into f node-taken (λ x y o. one (arrow-taken x y o)) h
 
   turned-kept : (x : Node) → declared s x ≡ true → declared s (turnedNode x) ≡ true
   turned-kept (concept b) e = e

@@ -1,9 +1,9 @@
 -- Closing a table by going through one node after the other. No paths are needed: once a node has been gone through, two entries that meet
 -- at it always have the entry that joins them, and later nodes keep that so. At the end this holds of every node.
-use mathlib.Core.Path.{_≡_, refl, sym, subst}
-use mathlib.Core.Bool.{Bool, true, false, _&&_, _||_}
-use mathlib.Core.Logic.{_⊎_, inl, inr, _↔_}
-use mathlib.Core.List.{List, [], _∷_, List·Memᴰ, List·Memᴰ·head, List·Memᴰ·tail, List·Memᴰ·not-nil, List·Memᴰ·cases-cons}
+use mathlib.Core.Path.{_≡_, sym, subst}
+use mathlib.Core.Bool.{Bool, true, _&&_, _||_}
+use mathlib.Core.Logic.{_⊎_, inl, inr}
+use mathlib.Core.List.{List, [], _∷_, List·Memᴰ, List·Memᴰ·not-nil, List·Memᴰ·cases-cons}
 use Rattle.site.specs.Kinds.{Node, sameNode}
 use Rattle.site.proofs.Lists.{or-cases, or-left, or-right, and-left, and-right, and-both}
 use Rattle.site.proofs.Same.{same-node, same-node-refl}

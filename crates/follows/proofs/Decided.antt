@@ -1,23 +1,23 @@
 -- The executable tables decide what follows: each test in them is one of the relations' parts, both ways.
-use mathlib.Core.Path.{_≡_, refl, sym, ap, subst, _∙_}
-use mathlib.Core.Bool.{Bool, true, false, false≢true, _&&_, _||_}
-use mathlib.Core.Logic.{_⊎_, inl, inr, _↔_}
+use mathlib.Core.Path.{_≡_, sym, ap, subst}
+use mathlib.Core.Bool.{Bool, true, false≢true, _&&_, _||_}
+use mathlib.Core.Logic.{_⊎_, inl, inr}
 use mathlib.Core.List.{List, List·Memᴰ}
-use Rattle.site.specs.Kinds.{BasicRole, Node, Rule, Site, declared, sameRole}
+use Rattle.site.specs.Kinds.{BasicRole, Node, Rule, Site}
 use Rattle.site.specs.Kinds.Rule.{included, disjoint, roleIncluded, roleDisjoint, functional}
 use Rattle.site.specs.Lists.{any}
 use Rattle.site.proofs.Lists.{Passing, any-found, any-of, or-cases, or-left, or-right, and-left, and-right, and-both}
 use Rattle.site.proofs.Same.{same-role, same-role-refl}
 use Rattle.rules.specs.Lawful.{Lawful}
 use Rattle.follows.specs.Steps.{Included, Excluded}
-use Rattle.follows.specs.Tables.{Pair, Relation, Follows, writtenOf, arrow, mates, nodesOf, rowsOf, looked, closure, apart, empty, excludes, saysFunctional, functionalIn, excludedRows, followsFrom, followsOf}
+use Rattle.follows.specs.Tables.{Pair, Relation, writtenOf, arrow, mates, nodesOf, rowsOf, looked, closure, apart, empty, excludes, saysFunctional, functionalIn, excludedRows, followsFrom, followsOf}
 use Rattle.follows.specs.Decides.{Decides}
-use Rattle.follows.proofs.Rows.{On, looked-in, looked-out, looked-from, looked-to}
-use Rattle.follows.proofs.Closing.{Reaches, closure-sound, closure-has}
-use Rattle.follows.proofs.Declares.{node-in, node-out}
-use Rattle.follows.proofs.Laws.{Both, included-declared, excluded-declared}
-use Rattle.follows.proofs.Arrows.{Leads, leads-included, included-leads}
-use Rattle.follows.proofs.Apart.{onward, LeadsOn, Across, Apart, Void, Kept, kept-excluded, excluded-kept}
+use Rattle.follows.proofs.Rows.{looked-in, looked-out, looked-to}
+use Rattle.follows.proofs.Closing.{closure-sound, closure-has}
+use Rattle.follows.proofs.Declares.{node-in}
+use Rattle.follows.proofs.Laws.{included-declared, excluded-declared}
+use Rattle.follows.proofs.Arrows.{leads-included, included-leads}
+use Rattle.follows.proofs.Apart.{onward, Across, Apart, Void, Kept, kept-excluded, excluded-kept}
 use Rattle.follows.proofs.Apart.Across.{straight, crossed}
 use Rattle.follows.proofs.Apart.Kept.{by-written, by-void}
 

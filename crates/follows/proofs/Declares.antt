@@ -1,17 +1,17 @@
 -- The list of a site's nodes holds exactly the declared ones.
 use Prim.Native.Nat.{ℕ}
-use mathlib.Core.Path.{_≡_, refl, sym, ap, subst, _∙_}
-use mathlib.Core.Bool.{Bool, true, false}
-use mathlib.Core.Logic.{_⊎_, inl, inr, ⊎-elim}
-use mathlib.Core.List.{List, [], _∷_, _++_, map, List·Memᴰ, List·Memᴰ·head, List·Memᴰ·tail, List·Memᴰ·not-nil, List·Memᴰ·cases-cons, List·Memᴰ·append-cases, Memᴰ·append-left, Memᴰ·append-right, Memᴰ·map, Memᴰ·of-map}
+use mathlib.Core.Path.{_≡_, refl, sym, ap, subst}
+use mathlib.Core.Bool.{true}
+use mathlib.Core.Logic.{⊎-elim}
+use mathlib.Core.List.{[], _∷_, map, List·Memᴰ, List·Memᴰ·head, List·Memᴰ·tail, List·Memᴰ·not-nil, List·Memᴰ·cases-cons, List·Memᴰ·append-cases, Memᴰ·append-left, Memᴰ·append-right, Memᴰ·map, Memᴰ·of-map}
 use lib.Dec.{ltb}
 use borrow.Author.Tests.{ltb-true, lt-ltb}
-use Rattle.site.specs.Kinds.{BasicRole, BasicConcept, Node, Site, roleIn, declared, declaredRole}
+use Rattle.site.specs.Kinds.{BasicRole, Node, Site, roleIn, declared}
 use Rattle.site.specs.Kinds.BasicRole.{forward, inverse}
 use Rattle.site.specs.Kinds.BasicConcept.{named, some}
 use Rattle.site.specs.Kinds.Node.{concept, role}
-use Rattle.site.specs.Lists.{upTo, each}
-use Rattle.site.proofs.Lists.{below-of-upTo, upTo-of-below, From, each-of, of-each}
+use Rattle.site.specs.Lists.{upTo}
+use Rattle.site.proofs.Lists.{below-of-upTo, upTo-of-below, each-of, of-each}
 use Rattle.follows.specs.Tables.{rolesOf, nodesOf}
 
 role-in : (n : ℕ) (q : BasicRole) → ltb (roleIn q) n ≡ true → List·Memᴰ q (rolesOf n)

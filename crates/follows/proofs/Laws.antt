@@ -1,13 +1,13 @@
 -- What holds of included and excluded in every lawful site: only declared nodes are related, concepts with concepts and roles with roles,
 -- and a functional role includes only itself. Each is by induction on the steps.
 use mathlib.Core.Path.{_≡_, refl, sym, ap, subst, _∙_}
-use mathlib.Core.Bool.{Bool, true, false, _&&_}
+use mathlib.Core.Bool.{Bool, true, false}
 use mathlib.Core.List.{List·Memᴰ}
-use Rattle.site.specs.Kinds.{BasicRole, BasicConcept, Node, Rule, Site, turned, roleIn, declared, declaredRole}
+use Rattle.site.specs.Kinds.{BasicRole, Node, Rule, Site, turned, roleIn, declared, declaredRole}
 use Rattle.site.specs.Kinds.BasicRole.{forward, inverse}
-use Rattle.site.specs.Kinds.BasicConcept.{named, some}
+use Rattle.site.specs.Kinds.BasicConcept.{some}
 use Rattle.site.specs.Kinds.Node.{concept, role}
-use Rattle.site.specs.Kinds.Rule.{included, disjoint, roleIncluded, roleDisjoint, functional}
+use Rattle.site.specs.Kinds.Rule.{functional}
 use Rattle.site.proofs.Lists.{and-left, and-right}
 use Rattle.site.proofs.Same.{roleIn-turned}
 use Rattle.rules.specs.Lawful.{Lawful, ruleDeclared}

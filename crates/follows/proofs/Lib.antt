@@ -6,3 +6,10 @@ pub mod Arrows
 pub mod Apart
 pub mod Decided
 pub mod Words
+pub mod Passes
+pub mod Lowers
+pub mod Adds
+pub mod Numbers
+pub mod Filling
+pub mod Bridge
+pub mod Telling

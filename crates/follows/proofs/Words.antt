@@ -1,20 +1,20 @@
 -- What one store of a word does to a table: a bit of an or is a bit of one of the two, and a word belongs to one row and one third of it.
 use Prim.Native.Nat.{ℕ, zero, suc, _+_, _-_, _*_, _/_, _%_, _^_, _<_, _≤_, max}
 use mathlib.Core.Path.{_≡_, refl, sym, ap, subst, _∙_}
-use mathlib.Core.Bool.{Bool, true, false, false≢true, _&&_, _||_}
+use mathlib.Core.Bool.{true, false, false≢true, _&&_, _||_}
 use mathlib.Core.Logic.{_⊎_, inl, inr, _≢_}
 use mathlib.Core.List.{List}
 use native.Mathlib.Omega.{arith}
-use native.Mathlib.Nat.{div-eq-of-lt, mod-lt}
+use native.Mathlib.Nat.{div-eq-of-lt}
 use native.Mathlib.Decide.{ℕ-discrete, decLt}
 use lib.ListN.{length, getD, set, length-set}
 use lib.Seq.{getD-set-same, getD-set-other}
 use lib.Dec.{eqb, ltb}
 use lib.Bits.{bitOr, or-shr, or-step}
 use lib.Pow.{pow-add, pow-lt, shl-exact, shl-shr}
-use borrow.Author.Tests.{ltb-true, lt-ltb, le-ltb, eqb-true, eq-eqb, ne-eqb}
+use borrow.Author.Tests.{ltb-true, lt-ltb, le-ltb}
 use borrow.Author.Needs.{needs}
-use Rattle.site.proofs.Lists.{or-cases, or-left, or-right, and-left, and-right, and-both}
+use Rattle.site.proofs.Lists.{or-cases, or-left, or-right, and-left, and-right}
 use Rattle.follows.specs.Bits.{bitOf, has, Has, IsTable, Added, CameAdded, Joined, CameJoined}
 use Rattle.follows.specs.Bits.CameAdded.{old-one, new-one}
 use Rattle.follows.specs.Bits.CameJoined.{old-one as old-join, from-row}

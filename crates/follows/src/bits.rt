@@ -5,9 +5,9 @@ ghost use Rattle.follows.specs.Bits.{has, IsTable, Added, Joined};
 // The nodes: 128 basic concepts and 64 basic roles.
 pub const NODES: usize = 192;
 // The words of a row, and the bits of a word.
-const WORDS: usize = 3;
+pub const WORDS: usize = 3;
 
-const BITS: usize = 64;
+pub const BITS: usize = 64;
 
 // Has the table y in row x?
 pub fn get(t: &[u64; 576], x: usize, y: usize) -> bool

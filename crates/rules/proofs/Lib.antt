@@ -1,4 +1,10 @@
 pub mod Accepted
 pub mod AcceptedFile
+pub mod Cases
 pub mod Checking
+pub mod Exact
+pub mod Longest
+pub mod OneAnswer
 pub mod Reading
+pub mod Refusals
+pub mod There

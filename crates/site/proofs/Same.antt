@@ -1,9 +1,8 @@
 -- The tests of equality on basic roles and nodes pass exactly where the two are the same.
-use Prim.Native.Nat.{ℕ}
-use mathlib.Core.Path.{_≡_, refl, sym, ap, subst}
-use mathlib.Core.Bool.{Bool, true, false, false≢true}
+use mathlib.Core.Path.{_≡_, refl, ap}
+use mathlib.Core.Bool.{true, false≢true}
 use borrow.Author.Tests.{eqb-true, eq-eqb}
-use Rattle.site.specs.Kinds.{BasicRole, BasicConcept, Node, turned, roleIn, sameRole, sameNode}
+use Rattle.site.specs.Kinds.{BasicRole, Node, turned, roleIn, sameRole, sameNode}
 use Rattle.site.specs.Kinds.BasicRole.{forward, inverse}
 use Rattle.site.specs.Kinds.BasicConcept.{named, some}
 use Rattle.site.specs.Kinds.Node.{concept, role}

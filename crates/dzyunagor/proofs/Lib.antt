@@ -1,0 +1,2 @@
+pub mod OfFace
+pub mod OneAnswer

@@ -1,0 +1,49 @@
+-- The promises of the library, one for each public operation: its answer as C sees it, and the lent memory afterwards, for all bytes, numbers
+-- and lent memory. Each is an equation with document 01's definitions, so that one answer is left.
+use Prim.Native.Nat.{ℕ}
+use mathlib.Core.Path.{_≡_}
+use mathlib.Core.List.{List}
+use lib.ListN.{length}
+use Rattle.number.specs.Answer.{Answer, over, laid}
+use Rattle.rules.specs.RuleFile.{checkRules}
+use Rattle.clean.specs.Operations.{marking, counting, asking, having, joining, keeping}
+use Rattle.operations.specs.Promises.{opening}
+use Rattle.dzyunagor.specs.Shown.{shownCounts, shownAsked, shownAnswer, shownLength}
+use Rattle.dzyunagor.specs.declared.shapes.DzyCounts.{DzyCounts}
+use Rattle.dzyunagor.specs.declared.shapes.DzyAsked.{DzyAsked}
+use Rattle.dzyunagor.specs.declared.shapes.DzyAnswer.{DzyAnswer}
+use Rattle.dzyunagor.specs.declared.shapes.DzyLength.{DzyLength}
+
+-- reading the rules: how many they are
+unfoldable pub CheckRules : List ℕ → DzyLength → Type 0
+CheckRules rules r = r ≡ shownLength (over (λ h. h .rules) (checkRules rules))
+
+-- reading both: how many facts there are
+unfoldable pub CheckBundle : List ℕ → List ℕ → DzyLength → Type 0
+CheckBundle rules bundle r = r ≡ shownLength (over (λ i. i .facts .count) (opening rules bundle))
+
+-- marking: the counts, and both rows
+pub record Mark (rules bundle row pair : List ℕ) (r : DzyCounts) (row′ pair′ : List ℕ) : Type 0 where
+  pub answer : r ≡ shownCounts (over (λ m. m .counts) (marking rules bundle (length row) (length pair)))
+  pub marks : row′ ≡ laid row 0 (over (λ m. m .marks) (marking rules bundle (length row) (length pair)))
+  pub partners : pair′ ≡ laid pair 0 (over (λ m. m .partners) (marking rules bundle (length row) (length pair)))
+
+-- counting
+unfoldable pub Count : List ℕ → List ℕ → DzyCounts → Type 0
+Count rules bundle r = r ≡ shownCounts (counting rules bundle)
+
+-- one fact
+unfoldable pub Ask : List ℕ → List ℕ → ℕ → DzyAsked → Type 0
+Ask rules bundle n r = r ≡ shownAsked (asking rules bundle n)
+
+-- "B of a", and "q from a to b"
+unfoldable pub Has : List ℕ → List ℕ → ℕ → ℕ → DzyAnswer → Type 0
+Has rules bundle code thing r = r ≡ shownAnswer (having rules bundle code thing)
+
+unfoldable pub Joins : List ℕ → List ℕ → ℕ → ℕ → ℕ → DzyAnswer → Type 0
+Joins rules bundle code from to r = r ≡ shownAnswer (joining rules bundle code from to)
+
+-- the kept facts: their bundle's length, and the output
+pub record WriteKept (rules bundle out : List ℕ) (r : DzyLength) (out′ : List ℕ) : Type 0 where
+  pub answer : r ≡ shownLength (over length (keeping rules bundle (length out)))
+  pub memory : out′ ≡ laid out 0 (keeping rules bundle (length out))

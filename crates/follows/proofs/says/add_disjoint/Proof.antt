@@ -1,0 +1,15 @@
+use Rattle.follows.proofs.Adds.{adds}
+use Rattle.follows.proofs.says.add_disjoint.Statement.{statement}
+use Rattle.follows.proofs.says.add_disjoint.Tie as tie
+
+pub add-disjoint-spec : {M : Type 1} → statement M
+add-disjoint-spec =
+    tie.close
+    (tie.spec
+    (λ c κs. search adds)
+    (λ c κs. search adds)
+    (λ c κs. search adds)
+    (λ c κs. search adds)
+    (λ c κs. search adds)
+    (λ c κs. search adds)
+    (λ c. search adds))

@@ -1,0 +1,3 @@
+pub mod OfDecimals
+pub mod OfLines
+pub mod OfPutting

@@ -1,0 +1,4 @@
+pub mod OfKeptAgain
+pub mod OfKeptBundle
+pub mod OfOperations
+pub mod OfQuestions

@@ -1,0 +1,88 @@
+-- What each operation promises: its answer and the lent memory afterwards, for all bytes, numbers and lent memory.
+use Prim.Native.Nat.{ℕ, _+_, _≤_}
+use mathlib.Core.Path.{_≡_}
+use mathlib.Core.Bool.{true}
+use mathlib.Core.List.{List}
+use lib.ListN.{length}
+use Rattle.number.specs.Answer.{Answer, refusal, _then_, over, laid}
+use Rattle.number.specs.Answer.Answer.{gives, refuses}
+use Rattle.number.specs.declared.refusal.Refusal.{Refusal}
+use Rattle.rules.specs.declared.head.Head.{Head}
+use Rattle.rules.specs.RuleFile.{checkRules, siteOf}
+use Rattle.bundle.specs.Bundle.{checkBundle, factsOf}
+use Rattle.bundle.specs.Pushed.{wroteTold}
+use Rattle.bundle.specs.declared.writing.BundleWrote.{BundleWrote}
+use Rattle.bundle.specs.declared.facts.Facts.{Facts}
+use Rattle.number.specs.Number.{bytesOf, threeBytes}
+use Rattle.site.specs.Limits.{mostFacts}
+use Rattle.clean.specs.Keeping.{keptBytes}
+use Rattle.site.specs.Kinds.{declared}
+use Rattle.follows.specs.Tables.{Follows, followsOf}
+use Rattle.clean.specs.Types.{Typ as SaidTyp}
+use Rattle.clean.specs.Coded.{code}
+use Rattle.clean.specs.Operations.{Marked, Reply, replyOf, marking, counting, asking, having, joining, keeping}
+use Rattle.clean.specs.Operations.Reply.{yes-by, none}
+use Rattle.clean.specs.declared.answers.Counts.{Counts}
+use Rattle.clean.specs.declared.answers.Judged.{Judged}
+use Rattle.operations.specs.declared.open.Inputs.{Inputs}
+use Rattle.operations.specs.declared.open.Opened.{Opened}
+use Rattle.operations.specs.declared.open.Opened.the-variants.{Accepted as Ready, Refused as NotReady}
+use Rattle.operations.specs.declared.mark.Counted.{Counted}
+use Rattle.operations.specs.declared.mark.Counted.the-variants.{Counts as CountsAre, Refused as NotCounted}
+use Rattle.operations.specs.declared.mark.Asked.{Asked}
+use Rattle.operations.specs.declared.mark.Asked.the-variants.{Judged as JudgedSo, Refused as NotJudged}
+use Rattle.clean.specs.declared.types.Typ.{Typ}
+use Rattle.operations.specs.declared.question.Replied.{Replied}
+use Rattle.operations.specs.declared.question.Replied.the-variants.{Yes, No, Refused as NotReplied}
+
+-- "rules, then bundle": what both give, or their refusal
+unfoldable pub opening : List ℕ → List ℕ → Answer Inputs
+opening rules bundle = checkRules rules then λ h. checkBundle h bundle then λ b. gives (record { head = h; facts = b })
+
+-- accepted rules and an accepted bundle
+pub record Accepted (rules bundle : List ℕ) (h : Head) (b : Facts) : Type 0 where
+  pub of-rules : checkRules rules ≡ gives h
+  pub of-bundle : checkBundle h bundle ≡ gives b
+
+-- document 01's number and values for each case of the answers
+abbrev pub openedTold : Opened → Answer Inputs
+openedTold (Ready i) = gives i
+openedTold (NotReady r) = refuses r
+
+abbrev pub openedRefusal : Opened → Refusal
+openedRefusal (Ready i) = refusal 0 0 0
+openedRefusal (NotReady r) = r
+
+abbrev pub countedTold : Counted → Answer Counts
+countedTold (CountsAre c) = gives c
+countedTold (NotCounted r) = refuses r
+
+abbrev pub askedTold : Asked → Answer Judged
+askedTold (JudgedSo j) = gives j
+askedTold (NotJudged r) = refuses r
+
+abbrev pub repliedTold : Replied → Answer Reply
+repliedTold (Yes n) = gives (yes-by n)
+repliedTold No = gives none
+repliedTold (NotReplied r) = refuses r
+
+-- marking: the counts, and both rows
+pub record MarksAll (rules bundle row pair : List ℕ) (r : Counted) (row′ pair′ : List ℕ) : Type 0 where
+  pub answer : countedTold r ≡ over (λ m. m .counts) (marking rules bundle (length row) (length pair))
+  pub marks : row′ ≡ laid row 0 (over (λ m. m .marks) (marking rules bundle (length row) (length pair)))
+  pub partners : pair′ ≡ laid pair 0 (over (λ m. m .partners) (marking rules bundle (length row) (length pair)))
+
+-- writing the kept facts: their bundle's length, and the output
+pub record WritesKept (rules bundle out : List ℕ) (r : BundleWrote) (out′ : List ℕ) : Type 0 where
+  pub answer : wroteTold r ≡ over length (keeping rules bundle (length out))
+  pub memory : out′ ≡ laid out 0 (keeping rules bundle (length out))
+
+-- a question's reply under accepted rules and an accepted bundle, by the asked node's number
+pub record RepliesTo (rules : List ℕ) (h : Head) (bundle : List ℕ) (b : Facts) (asked : Typ) (r : Replied) : Type 0 where
+  pub answer : (x : SaidTyp) → declared (siteOf rules h) (x .node) ≡ true → code x ≡ asked → repliedTold r ≡ gives (replyOf (followsOf (siteOf rules h)) (factsOf bundle b) x)
+
+-- the kept facts' bundle has room
+pub record StoresBundle (t : Follows) (bundle : List ℕ) (b : Facts) (count : ℕ) (out : List ℕ) : Type 0 where
+  pub few : b .count ≤ mostFacts
+  pub formed : count ≤ threeBytes
+  pub room : length (bytesOf count) + length (keptBytes t (factsOf bundle b)) ≤ length out

@@ -1,0 +1,148 @@
+-- The two numbers of Longest are exact: a rule file of 1,540 bytes is accepted, and two longer ones that agree on 1,541 bytes get two answers.
+-- Both are made of rules `00 00 00`, by which concept 0 is included in itself; a walk over these goes three bytes on each.
+use Prim.Native.Nat.{ℕ, zero, suc, _+_, _*_}
+use mathlib.Core.Path.{_≡_, refl, sym, ap, _∙_}
+use mathlib.Core.Bool.{Bool, true}
+use mathlib.Core.List.{List, [], _∷_}
+use lib.ListN.{length, take, drop}
+use lib.Seq.{drop-drop}
+use lib.Dec.{leb}
+use native.Mathlib.Omega.{arith}
+use Rattle.number.specs.Answer.{refusal}
+use Rattle.number.specs.Answer.Answer.{gives, refuses}
+use Rattle.number.specs.Number.{third, second, formOf, numberAt}
+use Rattle.number.specs.Number.Form.{fault}
+use Rattle.site.specs.Codes.{conceptDeclared, ruleOf}
+use Rattle.site.specs.Kinds.{Rule}
+use Rattle.site.specs.Items.{countAt, codeAt, endAt}
+use Rattle.site.specs.Limits.{lastKind}
+use Rattle.rules.specs.RuleFile.{headOf, codeDeclared, ruleAt, rulesFrom, rulesIn, unbroken, afterRules, checkRules}
+use Rattle.rules.specs.declared.head.Head.{Head}
+use Rattle.rules.proofs.Longest.{longest}
+
+-- so many rules, and what follows them
+abbrev pub rulesBefore : ℕ → List ℕ → List ℕ
+rulesBefore zero last = last
+rulesBefore (suc m) last = 0x00 ∷ 0x00 ∷ 0x00 ∷ rulesBefore m last
+
+-- one concept, no role, 512 rules
+abbrev pub file : List ℕ → List ℕ
+file rules = 0x01 ∷ 0x00 ∷ 0x80 ∷ 0x04 ∷ rules
+
+abbrev pub head : Head
+head = record { concepts = 1; roles = 0; rules = 512; start = 4 }
+
+code-0 : codeDeclared head 0 0 ≡ true
+unfolding codeDeclared conceptDeclared
+code-0 = refl
+
+the-head : (rules : List ℕ) → headOf (file rules) ≡ gives head
+unfolding headOf countAt numberAt formOf second
+the-head rules = refl
+
+-- the walks over such rules
+module _ (s : List ℕ) where
+  further : (at : ℕ) (l : List ℕ) → drop at s ≡ 0x00 ∷ l → drop (at + 1) s ≡ l
+  further at l e = sym (drop-drop 1 at s) ∙ ap (drop 1) e
+
+  code-there : (known : ℕ → Bool) → known 0 ≡ true → (at : ℕ) (l : List ℕ) → drop at s ≡ 0x00 ∷ l → codeAt s at known 0 ≡ gives (record { value = 0; next = at + 1 })
+  unfolding codeAt numberAt formOf
+  code-there known k at l e = rw (e, k)
+
+  code-faulty : (known : ℕ → Bool) (number at : ℕ) → formOf (drop at s) ≡ fault number → codeAt s at known 0 ≡ refuses (refusal number 0 at)
+  unfolding codeAt numberAt
+  code-faulty known number at e = rw e
+
+  rule-there : (at : ℕ) (l : List ℕ) → drop at s ≡ 0x00 ∷ 0x00 ∷ 0x00 ∷ l → ruleAt head s at ≡ gives (record { value = ruleOf 0 0 0; next = at + 1 + 1 + 1 })
+  unfolding ruleAt
+  rule-there at l e =
+      let e₁ = further at (0x00 ∷ 0x00 ∷ l) e in
+      let e₂ = further (at + 1) (0x00 ∷ l) e₁ in
+      rw (
+        code-there (λ kind. leb kind lastKind) refl at (0x00 ∷ 0x00 ∷ l) e,
+        code-there (codeDeclared head 0) code-0 (at + 1) (0x00 ∷ l) e₁,
+        code-there (codeDeclared head 0) code-0 (at + 1 + 1) l e₂,
+      )
+
+  after-rule : (at : ℕ) (l : List ℕ) → drop at s ≡ 0x00 ∷ 0x00 ∷ 0x00 ∷ l → drop (at + 1 + 1 + 1) s ≡ l
+  after-rule at l e = further (at + 1 + 1) l (further (at + 1) (0x00 ∷ l) (further at (0x00 ∷ 0x00 ∷ l) e))
+
+  rules-there : (m at : ℕ) (last : List ℕ) → drop at s ≡ rulesBefore m last → rulesFrom head s m at ≡ gives (at + 3 * m)
+  unfolding rulesFrom
+  rules-there zero at last e = let none : at ≡ at + 3 * 0 = omega arith in ap gives none
+  rules-there (suc m) at last e =
+      let on : at + 1 + 1 + 1 + 3 * m ≡ at + 3 * suc m = omega arith in
+      rw (rule-there at (rulesBefore m last) e)
+      (rules-there m (at + 1 + 1 + 1) last (after-rule at (rulesBefore m last) e) ∙ ap gives on)
+
+  unbroken-there : (rules : List Rule) (m at : ℕ) (last : List ℕ) → drop at s ≡ rulesBefore m last → unbroken head s rules m at ≡ gives (at + 3 * m)
+  unfolding unbroken
+  unbroken-there rules zero at last e = let none : at ≡ at + 3 * 0 = omega arith in ap gives none
+  unbroken-there rules (suc m) at last e =
+      let on : at + 1 + 1 + 1 + 3 * m ≡ at + 3 * suc m = omega arith in
+      rw (rule-there at (rulesBefore m last) e)
+      (unbroken-there rules m (at + 1 + 1 + 1) last (after-rule at (rulesBefore m last) e) ∙ ap gives on)
+
+  -- a second code that is a fault
+  rule-faulty : (number at : ℕ) (last : List ℕ) → formOf last ≡ fault number → drop at s ≡ 0x00 ∷ 0x00 ∷ last → ruleAt head s at ≡ refuses (refusal number 0 (at + 1 + 1))
+  unfolding ruleAt
+  rule-faulty number at last is e =
+      let e₁ = further at (0x00 ∷ last) e in
+      let e₂ = further (at + 1) last e₁ in
+      rw (
+        code-there (λ kind. leb kind lastKind) refl at (0x00 ∷ last) e,
+        code-there (codeDeclared head 0) code-0 (at + 1) last e₁,
+        code-faulty (codeDeclared head 0) number (at + 1 + 1) (ap formOf e₂ ∙ is),
+      )
+
+  rules-faulty : (number m at : ℕ) (last : List ℕ) → formOf last ≡ fault number → drop at s ≡ rulesBefore m (0x00 ∷ 0x00 ∷ last)
+      → rulesFrom head s (suc m) at ≡ refuses (refusal number 0 (at + 3 * m + 2))
+  unfolding rulesFrom
+  rules-faulty number zero at last is e =
+      let place : at + 1 + 1 ≡ at + 3 * 0 + 2 = omega arith in
+      rw (rule-faulty number at last is e) (ap (λ (p : ℕ). refuses (refusal number 0 p)) place)
+  rules-faulty number (suc m) at last is e =
+      let place : at + 1 + 1 + 1 + 3 * m + 2 ≡ at + 3 * suc m + 2 = omega arith in
+      rw (rule-there at (rulesBefore m (0x00 ∷ 0x00 ∷ last)) e)
+      (rules-faulty number m (at + 1 + 1 + 1) last is (after-rule at (rulesBefore m (0x00 ∷ 0x00 ∷ last)) e) ∙ ap (λ (p : ℕ). refuses (refusal number 0 p)) place)
+
+-- as long as can be, and accepted
+abbrev pub whole : List ℕ
+whole = file (rulesBefore 512 [])
+
+pub whole-length : length whole ≡ longest
+whole-length = refl
+
+pub whole-accepted : checkRules whole ≡ gives head
+unfolding checkRules afterRules endAt
+whole-accepted =
+    rw (the-head (rulesBefore 512 []), rules-there whole 512 4 [] refl, unbroken-there whole (rulesIn head whole 512 4) 512 4 [] refl)
+
+-- two bytes longer, and the last code has three: the first 1,541 bytes are the same, and then the third is over a number's form, or 0
+abbrev pub over : List ℕ
+over = file (rulesBefore 511 (0x00 ∷ 0x00 ∷ 0x80 ∷ 0x80 ∷ 0x80 ∷ []))
+
+abbrev pub zeroed : List ℕ
+zeroed = file (rulesBefore 511 (0x00 ∷ 0x00 ∷ 0x80 ∷ 0x80 ∷ 0x00 ∷ []))
+
+pub over-length : length over ≡ longest + 2
+over-length = refl
+
+pub zeroed-length : length zeroed ≡ longest + 2
+zeroed-length = refl
+
+pub both-agree : take (longest + 1) over ≡ take (longest + 1) zeroed
+both-agree = refl
+
+faults : (last : List ℕ) (number : ℕ) → formOf last ≡ fault number → checkRules (file (rulesBefore 511 (0x00 ∷ 0x00 ∷ last))) ≡ refuses (refusal number 0 1539)
+unfolding checkRules
+faults last number is =
+    rw (the-head (rulesBefore 511 (0x00 ∷ 0x00 ∷ last)), rules-faulty (file (rulesBefore 511 (0x00 ∷ 0x00 ∷ last))) number 511 4 last is refl)
+
+pub over-refused : checkRules over ≡ refuses (refusal 3 0 1539)
+unfolding formOf second third
+over-refused = faults (0x80 ∷ 0x80 ∷ 0x80 ∷ []) 3 refl
+
+pub zeroed-refused : checkRules zeroed ≡ refuses (refusal 2 0 1539)
+unfolding formOf second third
+zeroed-refused = faults (0x80 ∷ 0x80 ∷ 0x00 ∷ []) 2 refl

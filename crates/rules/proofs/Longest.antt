@@ -1,0 +1,207 @@
+-- "no valid file is over 28,674 bytes": a rule file none over 1,540, since its first two counts have one byte, its third two, and each of 512 rules
+-- a kind and two codes of one byte. The reading of a longer one looks at no byte past the two after them, where a last code of three bytes would end.
+use Prim.Native.Nat.{ℕ, zero, suc, _+_, _-_, _*_, _/_, _≤_, _<_}
+use mathlib.Core.Path.{_≡_, refl, sym, ap, _∙_}
+use mathlib.Core.Bool.{Bool, true, false, cond}
+use mathlib.Core.List.{List, [], _∷_}
+use lib.ListN.{length, take, drop}
+use lib.Seq.{take-take, take-nil}
+use lib.Dec.{ltb, leb, eqb}
+use native.Mathlib.Omega.{arith}
+use borrow.Author.Tests.{lt-ltb, ltb-true, ltb-false, leb-true}
+use Rattle.number.specs.Answer.{Answer, Read, refusal, _then_}
+use Rattle.number.specs.Answer.Answer.{gives, refuses}
+use Rattle.number.specs.Number.{numberAt, bytesOf}
+use Rattle.number.proofs.Answers.{not-stopped}
+use Rattle.number.proofs.Laws.{Bytes, one-form, from-three-bytes}
+use Rattle.number.proofs.Writing.{by-form, size-1}
+use Rattle.site.specs.Codes.{conceptDeclared, roleDeclared}
+use Rattle.site.specs.Items.{countAt, codeAt, endAt}
+use Rattle.site.specs.Limits.{mostNumber, mostConcepts, mostRoles, mostRules, lastKind}
+use Rattle.rules.specs.RuleFile.{headOf, codeDeclared, ruleAt, rulesFrom, afterRules, checkRules}
+use Rattle.rules.specs.declared.head.Head.{Head}
+use Rattle.rules.proofs.Accepted.{head-within}
+use Rattle.rules.proofs.AcceptedFile.{accepted-rules}
+use Rattle.rules.proofs.There.{count-there, code-there, Given, given-gives, given-test, given-then}
+
+-- 4 bytes of the counts, and 3 for each of 512 rules
+abbrev pub longest : ℕ
+longest = 1540
+
+-- a declared code is below 128
+role-low : (roles q : ℕ) → roles ≤ mostRoles → roleDeclared roles q ≡ true → q < 64
+role-low roles q few e = omega (arith, ltb-true (q / 2) roles e)
+
+concept-low : (concepts roles b : ℕ) → roles ≤ mostRoles → conceptDeclared concepts roles b ≡ true → b < 128
+unfolding conceptDeclared
+concept-low concepts roles b few = by-test (ltb b 64) refl
+  where
+    by-test : (t : Bool) → ltb b 64 ≡ t → cond t (ltb b concepts) (roleDeclared roles (b - 64)) ≡ true → b < 128
+    by-test true is e = omega (arith, ltb-true b 64 is)
+    by-test false is e = omega (arith, role-low roles (b - 64) few e)
+
+pub code-low : (h : Head) (kind x : ℕ) → h .roles ≤ mostRoles → codeDeclared h kind x ≡ true → x < 128
+unfolding codeDeclared
+code-low h kind x few = by-test (leb kind 1)
+  where
+    by-test : (t : Bool) → cond t (conceptDeclared (h .concepts) (h .roles) x) (roleDeclared (h .roles) x) ≡ true → x < 128
+    by-test true e = concept-low (h .concepts) (h .roles) x few e
+    by-test false e = omega (arith, role-low (h .roles) x few e)
+
+two-bytes : (v : ℕ) → v < 16384 → length (bytesOf v) ≤ 2
+two-bytes v h = by-form v (λ l. length l ≤ 2) (λ k. omega arith) (λ k l. omega arith) (λ k. absurd (omega arith))
+
+-- how far a head, a rule and the rules reach
+module _ (s : List ℕ) (bytes : Bytes s) where
+  one-byte : (at : ℕ) (n : Read ℕ) → numberAt s at mostNumber 0 ≡ gives n → n .value < 128 → n .next ≡ at + 1
+  one-byte at n e low = omega (arith, one-form s at mostNumber 0 (n .value) (n .next) e bytes .size, size-1 (n .value) low)
+
+  after-count : (at limit : ℕ) (n : Read ℕ) → limit < 128 → countAt s at limit 0 ≡ gives n → n .next ≡ at + 1
+  after-count at limit n small e =
+      let c = count-there s at limit 0 n e in
+      one-byte at n (c .number) (omega (arith, c .within))
+
+  after-kind : (at : ℕ) (n : Read ℕ) → codeAt s at (λ kind. leb kind lastKind) 0 ≡ gives n → n .next ≡ at + 1
+  after-kind at n e =
+      let c = code-there s at (λ kind. leb kind lastKind) 0 n e in
+      one-byte at n (c .number) (omega (arith, leb-true (n .value) lastKind (c .holds)))
+
+  head-near : Given (λ h. h .start ≤ 4) (headOf s)
+  unfolding headOf
+  head-near =
+      given-then _ (countAt s 0 mostConcepts 0) _
+      (λ c e.
+      given-then _ (countAt s (c .next) mostRoles 0) _
+      (λ q f.
+      given-then _ (countAt s (q .next) mostRules 0) _
+      (λ n g.
+      let k = count-there s (q .next) mostRules 0 n g in
+      let size = one-form s (q .next) mostNumber 0 (n .value) (n .next) (k .number) bytes .size in
+      let first = after-count 0 mostConcepts c (omega arith) e in
+      let second = after-count (c .next) mostRoles q (omega arith) f in
+      given-gives _ _ (omega (arith, two-bytes (n .value) (omega (arith, k .within)))))))
+
+  module _ (h : Head) (few : h .roles ≤ mostRoles) where
+    after-code : (kind at : ℕ) (n : Read ℕ) → codeAt s at (codeDeclared h kind) 0 ≡ gives n → n .next ≡ at + 1
+    after-code kind at n e =
+        let c = code-there s at (codeDeclared h kind) 0 n e in
+        one-byte at n (c .number) (code-low h kind (n .value) few (c .holds))
+
+    rule-near : (at : ℕ) → Given (λ r. r .next ≤ at + 3) (ruleAt h s at)
+    unfolding ruleAt
+    rule-near at =
+        given-then _ (codeAt s at (λ kind. leb kind lastKind) 0) _
+        (λ kind e.
+        given-then _ (codeAt s (kind .next) (codeDeclared h (kind .value)) 0) _
+        (λ x f.
+        let first = after-kind at kind e in
+        let second = after-code (kind .value) (kind .next) x f in
+        given-test _ (eqb (kind .value) lastKind) _ _ (given-gives _ _ (omega arith))
+        (given-then _ (codeAt s (x .next) (codeDeclared h (kind .value)) 0) _
+        (λ y g. given-gives _ _ (omega (arith, after-code (kind .value) (x .next) y g))))))
+
+    rules-near : (n at : ℕ) → Given (λ end. end ≤ at + 3 * n) (rulesFrom h s n at)
+    unfolding rulesFrom
+    rules-near zero at = given-gives (λ end. end ≤ at + 3 * 0) at (omega arith)
+    rules-near (suc n) at =
+        given-then (λ end. end ≤ at + 3 * suc n) (ruleAt h s at) (λ r. rulesFrom h s n (r .next))
+        (λ r e end f. omega (arith, rule-near at r e, rules-near n (r .next) end f))
+
+  walk-near : (h : Head) (end : ℕ) → headOf s ≡ gives h → rulesFrom h s (h .rules) (h .start) ≡ gives end → end ≤ longest
+  walk-near h end e f =
+      let within = head-within s h e in
+      omega (arith, head-near h e, within .rules, rules-near h (within .roles) (h .rules) (h .start) end f)
+
+-- an accepted rule file has at most so many bytes
+at-end : (s : List ℕ) (end x : ℕ) → endAt s end 0 ≡ gives x → length s ≤ end
+unfolding endAt
+at-end s end x e = ltb-false end (length s) (not-stopped (ltb end (length s)) (gives end) (refusal 7 0 end) e .test)
+
+pub accepted-short : (s : List ℕ) (h : Head) → Bytes s → checkRules s ≡ gives h → length s ≤ longest
+accepted-short s h bytes e =
+    let a = accepted-rules s h e in
+    omega (arith, at-end s (a .end) (a .end) (a .ended), walk-near s bytes h (a .end) (a .head) (a .rules))
+
+-- answers that are the same as far as they go
+then-same : {A B : Type 0} (a : Answer A) (k k′ : A → Answer B) → ((x : A) → a ≡ gives x → k x ≡ k′ x) → (a then k) ≡ (a then k′)
+then-same (gives x) k k′ same = same x refl
+then-same (refuses r) k k′ same = refl
+
+window : (at n m : ℕ) (l : List ℕ) → m ≡ at + n → drop at (take m l) ≡ take n (drop at l)
+window zero n m l e = let all : m ≡ n = omega arith in ap (λ (k : ℕ). take k l) all
+window (suc at) n zero l e = absurd (omega arith)
+window (suc at) n (suc m) [] e = sym (take-nil n)
+window (suc at) n (suc m) (a ∷ l) e = window at n m l (omega arith)
+
+-- files that agree on their first n bytes
+module _ (s t : List ℕ) (n : ℕ) (agree : take n s ≡ take n t) where
+  same-window : (at : ℕ) → at + 3 ≤ n → take 3 (drop at s) ≡ take 3 (drop at t)
+  same-window at h =
+      sym (window at 3 (at + 3) s refl)
+      ∙ ap (drop at) (sym (take-take (at + 3) n s h) ∙ ap (take (at + 3)) agree ∙ take-take (at + 3) n t h)
+      ∙ window at 3 (at + 3) t refl
+
+  same-number : (at : ℕ) → at + 3 ≤ n → numberAt s at mostNumber 0 ≡ numberAt t at mostNumber 0
+  same-number at h = from-three-bytes s t at mostNumber 0 (same-window at h)
+
+  same-count : (at limit : ℕ) → at + 3 ≤ n → countAt s at limit 0 ≡ countAt t at limit 0
+  unfolding countAt
+  same-count at limit h = rw (same-number at h)
+
+  same-code : (at : ℕ) (known : ℕ → Bool) → at + 3 ≤ n → codeAt s at known 0 ≡ codeAt t at known 0
+  unfolding codeAt
+  same-code at known h = rw (same-number at h)
+
+  module _ (bytes : Bytes s) where
+    same-head : 5 ≤ n → headOf s ≡ headOf t
+    unfolding headOf
+    same-head h =
+        rw (← (same-count 0 mostConcepts (omega arith)))
+        (then-same (countAt s 0 mostConcepts 0) _ _
+        (λ c e.
+        let first = after-count s bytes 0 mostConcepts c (omega arith) e in
+        rw (← (same-count (c .next) mostRoles (omega arith)))
+        (then-same (countAt s (c .next) mostRoles 0) _ _
+        (λ q f.
+        let second = after-count s bytes (c .next) mostRoles q (omega arith) f in
+        rw (same-count (q .next) mostRules (omega arith))))))
+
+    module _ (h : Head) (few : h .roles ≤ mostRoles) where
+      same-rule : (at : ℕ) → at + 5 ≤ n → ruleAt h s at ≡ ruleAt h t at
+      unfolding ruleAt
+      same-rule at k =
+          rw (← (same-code at (λ kind. leb kind lastKind) (omega arith)))
+          (then-same (codeAt s at (λ kind. leb kind lastKind) 0) _ _
+          (λ kind e.
+          let first = after-kind s bytes at kind e in
+          rw (← (same-code (kind .next) (codeDeclared h (kind .value)) (omega arith)))
+          (then-same (codeAt s (kind .next) (codeDeclared h (kind .value)) 0) _ _
+          (λ x f.
+          let second = after-code s bytes h few (kind .value) (kind .next) x f in
+          rw (same-code (x .next) (codeDeclared h (kind .value)) (omega arith))))))
+
+      same-rules : (m at : ℕ) → at + 3 * m + 2 ≤ n → rulesFrom h s m at ≡ rulesFrom h t m at
+      unfolding rulesFrom
+      same-rules zero at k = refl
+      same-rules (suc m) at k =
+          rw (← (same-rule at (omega arith)))
+          (then-same (ruleAt h s at) _ _
+          (λ r e. same-rules m (r .next) (omega (arith, rule-near s bytes h few at r e))))
+
+-- a longer one's answer is that of its first 1,542 bytes
+module _ (s t : List ℕ) (long-s : longest < length s) (long-t : longest < length t) where
+  after-both : (h : Head) (end : ℕ) → end ≤ longest → afterRules s h end ≡ afterRules t h end
+  unfolding afterRules endAt
+  after-both h end k = rw (lt-ltb end (length s) (omega arith), lt-ltb end (length t) (omega arith))
+
+  pub past-longest : Bytes s → take (longest + 2) s ≡ take (longest + 2) t → checkRules s ≡ checkRules t
+  unfolding checkRules
+  past-longest bytes agree =
+      rw (← (same-head s t (longest + 2) agree bytes (omega arith)))
+      (then-same (headOf s) _ _
+      (λ h e.
+      let within = head-within s h e in
+      let near = head-near s bytes h e in
+      rw (← (same-rules s t (longest + 2) agree bytes h (within .roles) (h .rules) (h .start) (omega (arith, within .rules))))
+      (then-same (rulesFrom h s (h .rules) (h .start)) _ _
+      (λ end f. after-both h end (walk-near s bytes h end e f)))))

@@ -1,0 +1,129 @@
+/* Dzyunagor: cleans the facts of a site by its rules. C11, x86-64.
+ *
+ * Every function takes rule files and bundles as bytes (docs/FORMAT.md) and keeps nothing: no state, no heap, no files.
+ * A slice is a pointer, then its length in elements. The pointer is never NULL, also where the length is 0.
+ * Lent outputs overlap neither each other nor the inputs.
+ *
+ * An answer starts with its refusal (docs/REFUSALS.md). Number 0: not refused.
+ * Refused: all other fields are 0, and no lent memory is written.
+ * Not refused: what lies past the written part of lent memory stays as it was.
+ */
+#ifndef DZYUNAGOR_H
+#define DZYUNAGOR_H
+
+#include <stddef.h>
+#include <stdint.h>
+
+#ifdef __cplusplus
+extern "C" {
+#endif
+
+/* The most facts of a bundle: a row of so many marks or partners is never too short. */
+#define DZY_MOST_FACTS 4096
+
+/* The most bytes of an accepted bundle: an output of so many is never too short for the kept facts. */
+#define DZY_MOST_BUNDLE 28674
+
+/* The largest thing: a device number. */
+#define DZY_MOST_THING 65535
+
+/* The partner of a fact that has none. */
+#define DZY_NO_PARTNER 65535
+
+/* Marks of facts. */
+#define DZY_KEPT 0
+#define DZY_ALONE 1
+#define DZY_DISPUTED 2
+
+/* Sides of refusals. */
+#define DZY_RULES 0
+#define DZY_BUNDLE 1
+#define DZY_CALL 2
+
+/* Numbers of refusals. */
+#define DZY_CUT 1      /* the bytes end before a number that is due is complete */
+#define DZY_LONG 2     /* a number of more than one byte, the last of them 0 */
+#define DZY_OVER 3     /* a third byte with its top bit set, or a value over 65,535 */
+#define DZY_COUNT 4    /* a count over its limit */
+#define DZY_UNKNOWN 5  /* a rule kind over 4; a concept or role that is not declared */
+#define DZY_BROKEN 6   /* a functional role on the right of a kind 2 rule */
+#define DZY_AFTER 7    /* bytes after the last item */
+#define DZY_ORDER 8    /* a fact not above the one before it */
+#define DZY_ROOM 9     /* a lent output too short */
+#define DZY_NO_FACT 10 /* a fact number not below the count */
+
+/* What is wrong, and where; number 0 if nothing is. */
+typedef struct dzy_refusal {
+    uint32_t number; /* 0, or 1 to 10 */
+    uint32_t side;   /* 0 the rules, 1 the bundle, 2 the call's own arguments */
+    uint64_t place;  /* the byte, for sides 0 and 1; 0 for side 2 */
+} dzy_refusal;
+
+/* How many facts there are, and how many of each mark. The three add up to the facts. */
+typedef struct dzy_counts {
+    dzy_refusal refused;
+    uint32_t facts;
+    uint32_t kept;
+    uint32_t alone;
+    uint32_t disputed;
+} dzy_counts;
+
+/* One fact's mark and partner. */
+typedef struct dzy_asked {
+    dzy_refusal refused;
+    uint32_t mark;    /* DZY_KEPT, DZY_ALONE or DZY_DISPUTED */
+    uint32_t partner; /* a fact's number, or DZY_NO_PARTNER where the mark is not DZY_DISPUTED */
+} dzy_asked;
+
+/* A question's answer. */
+typedef struct dzy_answer {
+    dzy_refusal refused;
+    uint32_t yes;  /* 1 yes, 0 no */
+    uint32_t fact; /* for yes the lowest-numbered kept fact that says so; for no 0 */
+} dzy_answer;
+
+/* How many bytes, rules or facts. */
+typedef struct dzy_length {
+    dzy_refusal refused;
+    uint64_t length;
+} dzy_length;
+
+/* Marks every fact. Writes a mark and a partner for each fact, in order; gives the counts.
+ * Refuses 9 if either row is shorter than the count of facts. */
+dzy_counts dzy_mark(const uint8_t *rules, size_t rules_length, const uint8_t *bundle, size_t bundle_length,
+                    uint8_t *marks, size_t marks_length, uint16_t *partners, size_t partners_length);
+
+/* Counts the facts and the marks, and writes nothing. */
+dzy_counts dzy_count(const uint8_t *rules, size_t rules_length, const uint8_t *bundle, size_t bundle_length);
+
+/* Gives the mark and the partner of one fact, by its number from 0.
+ * Refuses 10 if the number is not below the count of facts. */
+dzy_asked dzy_ask(const uint8_t *rules, size_t rules_length, const uint8_t *bundle, size_t bundle_length,
+                  uint64_t fact);
+
+/* Asks "B of a": is the thing of the basic concept? The code is i for concept i, 64+q for "has some partner by q".
+ * Refuses 5 if the code is not declared, then 3 if the thing is over 65,535. */
+dzy_answer dzy_has(const uint8_t *rules, size_t rules_length, const uint8_t *bundle, size_t bundle_length,
+                   uint64_t code, uint64_t thing);
+
+/* Asks "q from a to b": does the basic role join the two things? The code is 2j for role j, 2j+1 for its inverse.
+ * Refuses 5 if the code is not declared, then 3 if a thing is over 65,535. */
+dzy_answer dzy_joins(const uint8_t *rules, size_t rules_length, const uint8_t *bundle, size_t bundle_length,
+                     uint64_t code, uint64_t from, uint64_t to);
+
+/* Writes the bundle of the kept facts, from the output's first byte on; gives its length in bytes.
+ * Refuses 9 if the output is shorter than that. */
+dzy_length dzy_write_kept(const uint8_t *rules, size_t rules_length, const uint8_t *bundle, size_t bundle_length,
+                          uint8_t *out, size_t out_length);
+
+/* Judges a rule file; gives the number of rules. */
+dzy_length dzy_check_rules(const uint8_t *rules, size_t rules_length);
+
+/* Judges a rule file, then a bundle under it; gives the number of facts. */
+dzy_length dzy_check_bundle(const uint8_t *rules, size_t rules_length, const uint8_t *bundle, size_t bundle_length);
+
+#ifdef __cplusplus
+}
+#endif
+
+#endif

@@ -1,0 +1,119 @@
+/* The relay: calls the library's entry points for a program that cannot link it, on memory guarded on both sides.
+ *
+ * A request is eight 64-bit numbers: the operation, the lengths of rules and bundle, three arguments, and how
+ * many bytes and 16-bit numbers are lent as outputs; then the rules, the bundle and the outputs as they are lent.
+ * The reply is eight 64-bit numbers: the refusal's number, side and place, four values, and whether all memory
+ * but the lent outputs is as it was; then the outputs. Numbers are little-endian, as x86-64 has them. */
+#include "lent.h"
+
+#include "dzyunagor.h"
+
+/* The longest file or output that is relayed. */
+enum { MOST = 1 << 18, NUMBERS = 8 };
+
+enum { OP_MARK, OP_COUNT, OP_ASK, OP_HAS, OP_JOINS, OP_WRITE_KEPT, OP_CHECK_RULES, OP_CHECK_BUNDLE };
+
+typedef struct {
+  uint64_t op, rules, bundle, a, b, c, bytes, words;
+} request;
+
+typedef struct {
+  uint64_t number, side, place, values[4], intact;
+} reply;
+
+_Static_assert(sizeof(request) == NUMBERS * 8 && sizeof(reply) == NUMBERS * 8, "eight numbers");
+
+/* The memory that is lent, and copies of the files to see that they stay as they are. */
+static lent rules, bundle, bytes, words;
+static uint8_t rules_copy[MOST], bundle_copy[MOST];
+
+static void read_into(lent *l, uint64_t length, edge where) {
+  must(length <= MOST);
+  place(l, (size_t)length, where);
+  must(fread(l->at, 1, l->length, stdin) == l->length);
+}
+
+#define FILES rules.at, rules.length, bundle.at, bundle.length
+#define REFUSAL(r, answer) \
+  ((r)->number = (answer).refused.number, (r)->side = (answer).refused.side, (r)->place = (answer).refused.place)
+
+static void put_counts(reply *r, dzy_counts c) {
+  REFUSAL(r, c);
+  r->values[0] = c.facts;
+  r->values[1] = c.kept;
+  r->values[2] = c.alone;
+  r->values[3] = c.disputed;
+}
+
+static void put_asked(reply *r, dzy_asked a) {
+  REFUSAL(r, a);
+  r->values[0] = a.mark;
+  r->values[1] = a.partner;
+}
+
+static void put_answer(reply *r, dzy_answer a) {
+  REFUSAL(r, a);
+  r->values[0] = a.yes;
+  r->values[1] = a.fact;
+}
+
+static void put_length(reply *r, dzy_length l) {
+  REFUSAL(r, l);
+  r->values[0] = l.length;
+}
+
+static void call(const request *q, reply *r) {
+  uint16_t *partners = (uint16_t *)(void *)words.at;
+  switch (q->op) {
+    case OP_MARK: put_counts(r, dzy_mark(FILES, bytes.at, bytes.length, partners, words.length / 2)); break;
+    case OP_COUNT: put_counts(r, dzy_count(FILES)); break;
+    case OP_ASK: put_asked(r, dzy_ask(FILES, q->a)); break;
+    case OP_HAS: put_answer(r, dzy_has(FILES, q->a, q->b)); break;
+    case OP_JOINS: put_answer(r, dzy_joins(FILES, q->a, q->b, q->c)); break;
+    case OP_WRITE_KEPT: put_length(r, dzy_write_kept(FILES, bytes.at, bytes.length)); break;
+    case OP_CHECK_RULES: put_length(r, dzy_check_rules(rules.at, rules.length)); break;
+    case OP_CHECK_BUNDLE: put_length(r, dzy_check_bundle(FILES)); break;
+    default: must(0);
+  }
+}
+
+/* Whether nothing about the lent parts has changed, nor anything in the files. */
+static int intact(void) {
+  int around =
+      untouched_near(&rules) && untouched_near(&bundle) && untouched_near(&bytes) && untouched_near(&words);
+  return around && memcmp(rules.at, rules_copy, rules.length) == 0 && memcmp(bundle.at, bundle_copy, bundle.length) == 0;
+}
+
+static void wipe(lent *l) { memset(l->at, FILL, l->length); }
+
+/* One request and its reply; the lent parts lie at the end of their rooms and at the start by turns. */
+static void serve(const request *q, edge where) {
+  reply r = {0};
+  read_into(&rules, q->rules, where);
+  read_into(&bundle, q->bundle, where);
+  read_into(&bytes, q->bytes, where);
+  read_into(&words, 2 * q->words, where);
+  memcpy(rules_copy, rules.at, rules.length);
+  memcpy(bundle_copy, bundle.at, bundle.length);
+  call(q, &r);
+  r.intact = (uint64_t)intact();
+  must(fwrite(&r, sizeof r, 1, stdout) == 1);
+  must(fwrite(bytes.at, 1, bytes.length, stdout) == bytes.length);
+  must(fwrite(words.at, 1, words.length, stdout) == words.length);
+  must(fflush(stdout) == 0);
+  wipe(&rules);
+  wipe(&bundle);
+  wipe(&bytes);
+  wipe(&words);
+}
+
+int main(void) {
+  request q;
+  rules = map_room(MOST);
+  bundle = map_room(MOST);
+  bytes = map_room(MOST);
+  words = map_room(MOST);
+  for (edge where = AT_END; fread(&q, sizeof q, 1, stdin) == 1; where = where == AT_END ? AT_START : AT_END)
+    serve(&q, where);
+  return 0;
+}

@@ -1,0 +1,11 @@
+/* The header stands alone, may be included twice, and lays its answers out as the library gives them. Compiled, never run. */
+#include "dzyunagor.h"
+#include "dzyunagor.h"
+
+_Static_assert(sizeof(dzy_refusal) == 16 && offsetof(dzy_refusal, side) == 4 && offsetof(dzy_refusal, place) == 8, "refusal");
+_Static_assert(sizeof(dzy_counts) == 32 && offsetof(dzy_counts, refused) == 0 && offsetof(dzy_counts, facts) == 16, "counts");
+_Static_assert(offsetof(dzy_counts, kept) == 20 && offsetof(dzy_counts, alone) == 24 && offsetof(dzy_counts, disputed) == 28, "counts");
+_Static_assert(sizeof(dzy_asked) == 24 && offsetof(dzy_asked, mark) == 16 && offsetof(dzy_asked, partner) == 20, "asked");
+_Static_assert(sizeof(dzy_answer) == 24 && offsetof(dzy_answer, yes) == 16 && offsetof(dzy_answer, fact) == 20, "answer");
+_Static_assert(sizeof(dzy_length) == 24 && offsetof(dzy_length, length) == 16, "length");
+_Static_assert(sizeof(size_t) == 8, "lengths are of 64 bits");

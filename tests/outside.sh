@@ -1,0 +1,29 @@
+#!/usr/bin/env bash
+# The outside tests with the gate's counts: brute force, damaged files, listed cases, wrong versions, and the C boundary.
+# Each prints its own counts; a line 'ok: ..' follows each that passes, and the status is not 0 if any does not.
+set -u
+cd "$(dirname "$0")/.." || exit 2
+failed=0
+
+try() {
+  local name=$1
+  shift
+  if "$@"; then
+    echo "ok: $name"
+  else
+    echo "FAILED: $name"
+    failed=1
+  fi
+}
+
+# shellcheck source=tests/reach.sh
+. tests/reach.sh
+need tests/x86.sh build yes "$built/boundary" tests/boundary/boundary.c "$archive"
+
+try "every wrong version is noticed" "$run/bite" --seed 1
+try "the steps agree with brute force over worlds" "$run/compare" --against steps --seed 2 --cases 20000
+try "random sites agree with brute force over worlds" "$run/compare" "${against[@]}" --seed 1 --cases 20000
+try "damaged files and bad arguments are refused as document 01 says" "$run/damage" "${against[@]}" --seed 1 --cases 200000
+try "document 01's cases, truncations, changed bytes and limits" "$run/listed" "${against[@]}"
+try "the C boundary on guarded memory, under sanitizers" tests/x86.sh run "$built/boundary"
+exit "$failed"

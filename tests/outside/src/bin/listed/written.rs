@@ -1,0 +1,254 @@
+//! Document 01's cases with their answers written out by hand, and the order of its refusals.
+
+use outside::cleaner::{Answer, Asked, Cleaner, Counts, Length, Refusal};
+use outside::codes::{BUNDLE_SIDE, CALL_SIDE, RULES_SIDE};
+use std::fmt::Debug;
+
+/// The worked site.
+pub const R: &str = "02 01 05 01 00 01 00 01 40 00 41 00 04 00 03 00 01";
+pub const F: &str = "06 00 07 01 07 01 09 40 09 07 40 09 AC 02 40 0C 0C";
+
+/// A bundle that is refused with 8 at 3.
+const NOT_ASCENDING: &str = "02 00 07 00 07";
+
+/// Rule files, each with its refusal's number and place.
+const REFUSED_RULES: [(&str, u32, u64); 15] = [
+    ("", 1, 0),
+    ("00 01 02 04 00 02 01 01", 6, 3),
+    ("00 01 02 02 01 01 04 00", 6, 6),
+    ("00 01 02 04 00 02 01 01 00", 7, 8),
+    ("00 01 03 04 00 02 00 00 04 01", 6, 3),
+    ("41 00 00", 4, 0),
+    ("00 21 00", 4, 1),
+    ("00 00 81 04", 4, 2),
+    ("00 00 01 05", 5, 3),
+    ("00 00 01 80 80 04", 3, 3),
+    ("01 01 01 00 00 42", 5, 5),
+    ("01 01 01 00 01 40", 5, 4),
+    ("01 01 01 02 00 02", 5, 5),
+    ("01 01 01 04 02", 5, 4),
+    ("40 20 01 00 3F 80 01", 5, 5),
+];
+
+/// Bundles under R, each with its refusal's number and place.
+const REFUSED_BUNDLES: [(&str, u32, u64); 15] = [
+    ("", 1, 0),
+    ("80 20", 1, 2),
+    ("81 20", 4, 0),
+    ("02 00 07 00 07", 8, 3),
+    ("02 00 07 00 06", 8, 3),
+    ("02 01 07 00 08", 8, 3),
+    ("02 40 07 08 40 07 80", 1, 6),
+    ("02 40 07 08 40 06 80 00", 2, 6),
+    ("02 40 07 08 40 07 07", 8, 4),
+    ("02 01 07 02 07", 5, 3),
+    ("01 41 07 08", 5, 1),
+    ("01 80 01 07", 5, 1),
+    ("01 01 07 00", 7, 3),
+    ("00 00", 7, 1),
+    ("01 01 80 80 80", 3, 2),
+];
+
+/// Written hex as bytes.
+pub fn bytes(hex: &str) -> Vec<u8> {
+    hex.split_whitespace().map(|pair| u8::from_str_radix(pair, 16).expect("two hex digits")).collect()
+}
+
+/// A cleaner, and how many answers have been held to it.
+struct Held<'a> {
+    cleaner: &'a dyn Cleaner,
+    answers: &'a mut u64,
+}
+
+type Told = Result<(), String>;
+
+pub fn run(cleaner: &dyn Cleaner, answers: &mut u64) -> Told {
+    let mut held = Held { cleaner, answers };
+    held.numbers()?;
+    held.worked_marks()?;
+    held.worked_answers()?;
+    held.worked_kept()?;
+    held.careful_errors()?;
+    held.refusals()?;
+    held.order_of_arguments()
+}
+
+fn refused(number: u32, side: u32, place: u64) -> Refusal {
+    Refusal { number, side, place }
+}
+
+fn yes(fact: u32) -> Answer {
+    Answer { yes: 1, fact, ..Answer::default() }
+}
+
+fn no() -> Answer {
+    Answer::default()
+}
+
+fn refused_answer(number: u32, side: u32, place: u64) -> Answer {
+    Answer { refused: refused(number, side, place), ..Answer::default() }
+}
+
+fn refused_length(number: u32, side: u32, place: u64) -> Length {
+    Length { refused: refused(number, side, place), length: 0 }
+}
+
+fn asked(mark: u32, partner: u32) -> Asked {
+    Asked { mark, partner, ..Asked::default() }
+}
+
+impl Held<'_> {
+    fn hold<T: Debug + PartialEq>(&mut self, what: &str, got: T, written: T) -> Told {
+        *self.answers += 1;
+        if got == written {
+            return Ok(());
+        }
+        Err(format!("{what}: got {got:?}, written {written:?}"))
+    }
+
+    /// A number as the subject of one fact, and as the first number of a rule file.
+    fn numbers(&mut self) -> Told {
+        for (hex, value) in [("7F", 127), ("80 01", 128), ("FF FF 03", 65_535)] {
+            let (rules, bundle) = (bytes("01 00 00"), bytes(&format!("01 00 {hex}")));
+            self.hold(hex, self.cleaner.has(&rules, &bundle, 0, value), yes(0))?;
+        }
+        let bad = [("80 80 04", 3), ("80 00", 2), ("80 80 80", 3), ("80", 1), ("80 80", 1), ("80 80 00", 2)];
+        for (hex, number) in bad {
+            let (rules, bundle) = (bytes("01 00 00"), bytes(&format!("01 00 {hex}")));
+            let got = self.cleaner.check_bundle(&rules, &bundle);
+            self.hold(hex, got, refused_length(number, BUNDLE_SIDE, 2))?;
+            self.hold(hex, self.cleaner.check_rules(&bytes(hex)), refused_length(number, RULES_SIDE, 0))?;
+        }
+        Ok(())
+    }
+
+    fn worked_marks(&mut self) -> Told {
+        let counts = Counts { refused: Refusal::default(), facts: 6, kept: 1, alone: 1, disputed: 4 };
+        let partners = [1, 0, 65_535, 1, 3, 65_535];
+        self.marks(R, F, counts, &[2, 2, 0, 2, 2, 1], &partners)?;
+        self.hold("rules of R", self.cleaner.check_rules(&bytes(R)), Length { length: 5, ..Length::default() })?;
+        let facts = self.cleaner.check_bundle(&bytes(R), &bytes(F));
+        self.hold("facts of F", facts, Length { length: 6, ..Length::default() })
+    }
+
+    /// Marks and partners of a site, all at once, one by one, and counted.
+    fn marks(&mut self, rules: &str, bundle: &str, counts: Counts, marks: &[u8], partners: &[u16]) -> Told {
+        let (rules, bundle) = (bytes(rules), bytes(bundle));
+        let (mut got_marks, mut got_partners) = (vec![77; marks.len() + 1], vec![777; partners.len() + 1]);
+        let got = self.cleaner.mark(&rules, &bundle, &mut got_marks, &mut got_partners);
+        self.hold("mark", got, counts)?;
+        self.hold("count", self.cleaner.count(&rules, &bundle), counts)?;
+        self.hold("marks", got_marks, [marks, &[77]].concat())?;
+        self.hold("partners", got_partners, [partners, &[777]].concat())?;
+        for (fact, (&mark, &partner)) in marks.iter().zip(partners).enumerate() {
+            let got = self.cleaner.ask(&rules, &bundle, fact as u64);
+            self.hold("ask", got, asked(mark.into(), partner.into()))?;
+        }
+        Ok(())
+    }
+
+    fn worked_answers(&mut self) -> Told {
+        let (rules, bundle) = (bytes(R), bytes(F));
+        for (code, thing, answer) in [(64, 9, yes(2)), (0, 300, no()), (0, 7, no()), (1, 9, yes(2)), (65, 9, no())] {
+            self.hold("B of a", self.cleaner.has(&rules, &bundle, code, thing), answer)?;
+        }
+        self.hold("q from a to b", self.cleaner.joins(&rules, &bundle, 0, 9, 7), no())?;
+        let pair = bytes("01 40 09 07");
+        for (code, from, to, answer) in [(0, 9, 7, yes(0)), (1, 7, 9, yes(0)), (0, 7, 9, no()), (1, 9, 7, no())] {
+            self.hold("q from a to b", self.cleaner.joins(&rules, &pair, code, from, to), answer)?;
+        }
+        self.hold("the other end", self.cleaner.has(&rules, &pair, 0, 7), yes(0))
+    }
+
+    fn worked_kept(&mut self) -> Told {
+        for room in [3, 4, 9] {
+            let mut out = vec![0xEE; room];
+            let got = self.cleaner.write_kept(&bytes(R), &bytes(F), &mut out);
+            self.hold("kept", got, Length { length: 3, ..Length::default() })?;
+            let written = [bytes("01 01 09"), vec![0xEE; room - 3]].concat();
+            self.hold("kept bundle", out, written)?;
+        }
+        let mut out = vec![0xEE; 2];
+        let got = self.cleaner.write_kept(&bytes(R), &bytes(F), &mut out);
+        self.hold("kept, one too short", got, refused_length(9, CALL_SIDE, 0))?;
+        self.hold("nothing written", out, vec![0xEE; 2])
+    }
+
+    /// An empty role, a fact that is alone beside one that is not, a loop, a functional inverse.
+    fn careful_errors(&mut self) -> Told {
+        let two = |kept, alone, disputed| Counts { refused: Refusal::default(), facts: 2, kept, alone, disputed };
+        let none = 65_535;
+        let empty = "02 01 04 01 00 01 00 01 40 00 41 00 00 41 01";
+        self.marks(empty, "02 00 07 01 07", two(1, 1, 0), &[0, 1], &[none, none])?;
+        self.marks("02 00 02 01 00 00 01 00 01", "02 00 07 01 07", two(1, 1, 0), &[1, 0], &[none, none])?;
+        self.marks("00 01 01 01 40 41", "02 40 07 07 40 08 09", two(1, 1, 0), &[1, 0], &[none, none])?;
+        self.marks("00 01 01 04 01", "02 40 07 09 40 08 09", two(0, 0, 2), &[2, 2], &[1, 0])?;
+        self.marks("00 01 01 04 01", "02 40 07 08 40 07 09", two(2, 0, 0), &[0, 0], &[none, none])?;
+        let single = Counts { refused: Refusal::default(), facts: 1, kept: 1, alone: 0, disputed: 0 };
+        self.marks(R, "01 01 09", single, &[0], &[none])
+    }
+
+    /// Refusals of the rules, which come before a bad bundle's; then those of bundles.
+    fn refusals(&mut self) -> Told {
+        for (hex, number, place) in REFUSED_RULES {
+            let due = refused_length(number, RULES_SIDE, place);
+            self.hold(hex, self.cleaner.check_rules(&bytes(hex)), due)?;
+            self.hold(hex, self.cleaner.check_bundle(&bytes(hex), &bytes("81 20")), due)?;
+        }
+        for (hex, number, place) in REFUSED_BUNDLES {
+            let got = self.cleaner.check_bundle(&bytes(R), &bytes(hex));
+            self.hold(hex, got, refused_length(number, BUNDLE_SIDE, place))?;
+        }
+        self.hold("no facts", self.cleaner.check_bundle(&bytes(R), &bytes("00")), Length::default())
+    }
+
+    /// Arguments after both files, the code before the things, room last.
+    fn order_of_arguments(&mut self) -> Told {
+        let (rules, bundle) = (bytes(R), bytes(F));
+        self.fact_numbers(&rules, &bundle)?;
+        self.question_codes(&rules, &bundle)?;
+        self.question_things(&rules, &bundle)?;
+        self.rooms(&rules, &bundle)
+    }
+
+    fn fact_numbers(&mut self, rules: &[u8], bundle: &[u8]) -> Told {
+        let none = Asked { refused: refused(10, CALL_SIDE, 0), ..Asked::default() };
+        let broken = Asked { refused: refused(8, BUNDLE_SIDE, 3), ..Asked::default() };
+        for fact in [6, 7, 65_536, 1 << 32, u64::MAX] {
+            self.hold("fact number", self.cleaner.ask(rules, bundle, fact), none)?;
+            self.hold("fact number after the bundle", self.cleaner.ask(rules, &bytes(NOT_ASCENDING), fact), broken)?;
+        }
+        Ok(())
+    }
+
+    fn question_codes(&mut self, rules: &[u8], bundle: &[u8]) -> Told {
+        let (undeclared, broken) = (refused_answer(5, CALL_SIDE, 0), refused_answer(8, BUNDLE_SIDE, 3));
+        for code in [2, 63, 66, 128, 65_536, 1 << 32, u64::MAX] {
+            self.hold("code", self.cleaner.has(rules, bundle, code, u64::MAX), undeclared)?;
+            self.hold("code", self.cleaner.joins(rules, bundle, code, u64::MAX, 0), undeclared)?;
+            self.hold("code after the bundle", self.cleaner.has(rules, &bytes(NOT_ASCENDING), code, 0), broken)?;
+        }
+        Ok(())
+    }
+
+    fn question_things(&mut self, rules: &[u8], bundle: &[u8]) -> Told {
+        let too_large = refused_answer(3, CALL_SIDE, 0);
+        for thing in [65_536, 1 << 32, u64::MAX] {
+            self.hold("thing", self.cleaner.has(rules, bundle, 64, thing), too_large)?;
+            self.hold("from", self.cleaner.joins(rules, bundle, 1, thing, 0), too_large)?;
+            self.hold("to", self.cleaner.joins(rules, bundle, 1, 0, thing), too_large)?;
+        }
+        Ok(())
+    }
+
+    fn rooms(&mut self, rules: &[u8], bundle: &[u8]) -> Told {
+        for (marks_room, partners_room) in [(5, 6), (6, 5), (0, 6), (6, 0), (0, 0)] {
+            let (mut marks, mut partners) = (vec![77; marks_room], vec![777; partners_room]);
+            let got = self.cleaner.mark(rules, bundle, &mut marks, &mut partners);
+            self.hold("room", got, Counts { refused: refused(9, CALL_SIDE, 0), ..Counts::default() })?;
+            self.hold("no marks written", marks, vec![77; marks_room])?;
+            self.hold("no partners written", partners, vec![777; partners_room])?;
+        }
+        Ok(())
+    }
+}

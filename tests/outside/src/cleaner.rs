@@ -1,0 +1,54 @@
+//! The operations as the tests call them, and their answers laid out as the C header lays them out.
+
+#[repr(C)]
+#[derive(Clone, Copy, Debug, Default, PartialEq, Eq)]
+pub struct Refusal {
+    pub number: u32,
+    pub side: u32,
+    pub place: u64,
+}
+
+#[repr(C)]
+#[derive(Clone, Copy, Debug, Default, PartialEq, Eq)]
+pub struct Counts {
+    pub refused: Refusal,
+    pub facts: u32,
+    pub kept: u32,
+    pub alone: u32,
+    pub disputed: u32,
+}
+
+#[repr(C)]
+#[derive(Clone, Copy, Debug, Default, PartialEq, Eq)]
+pub struct Asked {
+    pub refused: Refusal,
+    pub mark: u32,
+    pub partner: u32,
+}
+
+#[repr(C)]
+#[derive(Clone, Copy, Debug, Default, PartialEq, Eq)]
+pub struct Answer {
+    pub refused: Refusal,
+    pub yes: u32,
+    pub fact: u32,
+}
+
+#[repr(C)]
+#[derive(Clone, Copy, Debug, Default, PartialEq, Eq)]
+pub struct Length {
+    pub refused: Refusal,
+    pub length: u64,
+}
+
+/// One implementation of the operations; every field that does not apply is 0.
+pub trait Cleaner {
+    fn mark(&self, rules: &[u8], bundle: &[u8], marks: &mut [u8], partners: &mut [u16]) -> Counts;
+    fn count(&self, rules: &[u8], bundle: &[u8]) -> Counts;
+    fn ask(&self, rules: &[u8], bundle: &[u8], fact: u64) -> Asked;
+    fn has(&self, rules: &[u8], bundle: &[u8], code: u64, thing: u64) -> Answer;
+    fn joins(&self, rules: &[u8], bundle: &[u8], code: u64, from: u64, to: u64) -> Answer;
+    fn write_kept(&self, rules: &[u8], bundle: &[u8], out: &mut [u8]) -> Length;
+    fn check_rules(&self, rules: &[u8]) -> Length;
+    fn check_bundle(&self, rules: &[u8], bundle: &[u8]) -> Length;
+}

@@ -1,0 +1,27 @@
+# Sourced by the outside tests: builds them, and sets how the programs reach the library.
+# The archive is for x86-64: there the programs link it; elsewhere they call it through the relay, which runs under an emulator.
+# shellcheck shell=bash disable=SC2034
+archive=target/staticlib/libdzyunagor.a
+built=target/outside
+run=$built/release
+
+need() {
+  "$@" || {
+    echo "FAILED: $*"
+    exit 1
+  }
+}
+
+build_programs() {
+  need cargo build --quiet --release --offline --manifest-path tests/outside/Cargo.toml --target-dir "$built" "$@"
+}
+
+[ -f "$archive" ] || need rt staticlib dzyunagor
+if [ "$(uname -m)" = x86_64 ]; then
+  build_programs --features library
+  against=(--against library)
+else
+  build_programs
+  need tests/x86.sh build no "$built/relay" tests/boundary/relay.c "$archive"
+  against=(--against relay --relay "$(tests/x86.sh command "$built/relay")")
+fi
