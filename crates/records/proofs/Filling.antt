@@ -9,13 +9,13 @@ use native.Mathlib.Omega.{arith}
 use borrow.Author.Tests.{leb-true}
 use Rattle.number.specs.Answer.{Answer, Read, refusal, _then_}
 use Rattle.number.specs.Answer.Answer.{gives, refuses}
+use Rattle.number.proofs.Answers.{went, passed}
 use Rattle.site.specs.declared.fact.Fact.{Fact}
 use Rattle.site.specs.Items.{onward}
 use Rattle.rules.specs.RuleFile.{checkRules}
 use Rattle.rules.specs.declared.head.Head.{Head}
 use Rattle.bundle.specs.Bundle.{factAt, checkBundle, factsIn, factsOf}
 use Rattle.bundle.specs.declared.facts.Facts.{Facts}
-use Rattle.bundle.proofs.Runs.{went, passed}
 use Rattle.bundle.proofs.Accepted.{accepted-count}
 use Rattle.records.specs.Rows.{recordOf, handOut, handRecords, takeAt}
 use Rattle.records.specs.Told.{handed, decided, Hands}
@@ -83,18 +83,18 @@ pub handed-out : (rules bundle : List ℕ) (room : ℕ) (b : Facts) → handOut 
 unfolding handOut
 handed-out rules bundle room b e =
     let k : Head → Facts → Answer Facts = λ h f. cond (leb (f .count) room) (gives f) (refuses (refusal 9 2 0)) in
-    let w = went (checkRules rules) (λ h. checkBundle h bundle then k h) b e in
-    let v = went (checkBundle (w .mid) bundle) (k (w .mid)) b (w .rest) in
-    let t = passed (leb (v .mid .count) room) (gives (v .mid)) (refusal 9 2 0) b (v .rest) in
-    let read : checkBundle (w .mid) bundle ≡ gives b = v .first ∙ t .result in
-    let fits : v .mid .count ≤ room = leb-true (v .mid .count) room (t .holds) in
-    let same : v .mid ≡ b = cc (t .result) in
+    let w = went (checkRules rules) (λ h. checkBundle h bundle then k h) e in
+    let v = went (checkBundle (w .value) bundle) (k (w .value)) (w .rest) in
+    let t = passed (leb (v .value .count) room) (gives (v .value)) (refusal 9 2 0) (v .rest) in
+    let read : checkBundle (w .value) bundle ≡ gives b = v .first ∙ t .answer in
+    let fits : v .value .count ≤ room = leb-true (v .value .count) room (t .test) in
+    let same : v .value ≡ b = cc (t .answer) in
     record {
-      head = w .mid;
+      head = w .value;
       rules-read = w .first;
       bundle-read = read;
       fits = rw same at fits;
-      all = accepted-count (w .mid) bundle b read;
+      all = accepted-count (w .value) bundle b read;
     }
 
 module _ (rules bundle : List ℕ) (row : List Record) (hand : Hand) (is : hand ≡ decided (handOut rules bundle (length row))) where

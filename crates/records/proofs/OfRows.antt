@@ -10,6 +10,7 @@ use borrow.Author.Tests.{le-leb, leb-true, eqb-true, not-false}
 use Rattle.number.specs.Answer.{Answer, refusal, _then_, over}
 use Rattle.number.specs.Answer.Answer.{gives, refuses}
 use Rattle.number.proofs.Laws.{Bytes}
+use Rattle.number.proofs.Answers.{never, given-once as same-given, went, passed}
 use Rattle.site.specs.declared.fact.Fact.{Fact}
 use Rattle.site.specs.Kinds.{ofConcept}
 use Rattle.site.specs.Limits.{mostFacts, mostRoles, mostThing}
@@ -22,7 +23,6 @@ use Rattle.bundle.specs.Lawful.{LawfulFact, LawfulFrom, LawfulFacts}
 use Rattle.bundle.specs.Lawful.LawfulFrom.{done, next as one-more}
 use Rattle.bundle.specs.Records.{roomFor, recordFault, recordsFrom, planRecords}
 use Rattle.bundle.specs.declared.facts.Facts.{Facts}
-use Rattle.bundle.proofs.Runs.{never, same-given, went, passed}
 use Rattle.bundle.proofs.Accepted.{accepted-lawful}
 use Rattle.bundle.proofs.RoundTrips.{writtenHead, written-accepted, written-facts, accepted-again}
 use Rattle.bundle.proofs.Rewriting.{lawful-sound}
@@ -93,9 +93,9 @@ module _ (h : Head) (few : h .roles ≤ mostRoles) where
   unfolding recordsFrom
   accepted-from last k n [] e = done
   accepted-from last k n (f ∷ fs) e =
-      let p = passed (eqb (recordFault h last f) 0) (recordsFrom h (after f) (k + 1) fs) (refusal (recordFault h last f) 2 k) n e in
-      let g = faultless last f (eqb-true (recordFault h last f) 0 (p .holds)) in
-      one-more (g .lawful) (g .up) (accepted-from (after f) (k + 1) n fs (p .result))
+      let p = passed (eqb (recordFault h last f) 0) (recordsFrom h (after f) (k + 1) fs) (refusal (recordFault h last f) 2 k) e in
+      let g = faultless last f (eqb-true (recordFault h last f) 0 (p .test)) in
+      one-more (g .lawful) (g .up) (accepted-from (after f) (k + 1) n fs (p .answer))
 
 -- what is planned for lawful facts is their bundle, where there is room
 planned : (h : Head) → h .roles ≤ mostRoles → (room : ℕ) (facts : List Fact) → LawfulFacts h facts → planRecords h room facts ≡ roomFor room (bundleOf facts)
@@ -132,13 +132,13 @@ pub in-and-out : (rules bytes : List ℕ) (room : ℕ) (row : List Record) → w
 unfolding handRecords handOut writeRow planRecords roomFor
 in-and-out rules bytes room row e room′ fits =
     let facts : List Fact = map factOf row in
-    let w = went (checkRules rules) (λ h. planRecords h room facts) bytes e in
-    let v = went (cond (leb (length facts) mostFacts) (recordsFrom (w .mid) none 0 facts) (refuses (refusal 4 2 0))) (λ _. roomFor room (bundleOf facts)) bytes (w .rest) in
-    let p = passed (leb (length facts) mostFacts) (recordsFrom (w .mid) none 0 facts) (refusal 4 2 0) (v .mid) (v .first) in
-    let q = passed (leb (length (bundleOf facts)) room) (gives (bundleOf facts)) (refusal 9 2 0) bytes (v .rest) in
-    let same : bundleOf facts ≡ bytes = same-given (q .result) in
-    let few = few-roles rules (w .mid) (w .first) in
-    let lawful : LawfulFacts (w .mid) facts = record { few = leb-true (length facts) mostFacts (p .holds); lawful = accepted-from (w .mid) few none 0 (v .mid) facts (p .result) } in
+    let w = went (checkRules rules) (λ h. planRecords h room facts) e in
+    let v = went (cond (leb (length facts) mostFacts) (recordsFrom (w .value) none 0 facts) (refuses (refusal 4 2 0))) (λ _. roomFor room (bundleOf facts)) (w .rest) in
+    let p = passed (leb (length facts) mostFacts) (recordsFrom (w .value) none 0 facts) (refusal 4 2 0) (v .first) in
+    let q = passed (leb (length (bundleOf facts)) room) (gives (bundleOf facts)) (refusal 9 2 0) (v .rest) in
+    let same : bundleOf facts ≡ bytes = same-given (q .answer) in
+    let few = few-roles rules (w .value) (w .first) in
+    let lawful : LawfulFacts (w .value) facts = record { few = leb-true (length facts) mostFacts (p .test); lawful = accepted-from (w .value) few none 0 (v .value) facts (p .answer) } in
     let long : length facts ≤ room′ = omega (arith, length-map row factOf) in
-    rw (w .first, accepted (w .mid) few facts lawful bytes same, le-leb (length facts) room′ long)
-    (ap gives (ap (map recordOf) (read-facts (w .mid) few facts lawful bytes same) ∙ records-back row))
+    rw (w .first, accepted (w .value) few facts lawful bytes same, le-leb (length facts) room′ long)
+    (ap gives (ap (map recordOf) (read-facts (w .value) few facts lawful bytes same) ∙ records-back row))
