@@ -9,13 +9,13 @@ use native.Mathlib.Omega.{arith}
 use borrow.Author.Tests.{leb-true}
 use Rattle.number.specs.Answer.{Answer, Read, refusal, _then_}
 use Rattle.number.specs.Answer.Answer.{gives, refuses}
+use Rattle.number.proofs.Answers.{went, passed}
 use Rattle.site.specs.declared.fact.Fact.{Fact}
 use Rattle.site.specs.Items.{onward}
 use Rattle.rules.specs.RuleFile.{checkRules}
 use Rattle.rules.specs.declared.head.Head.{Head}
 use Rattle.bundle.specs.Bundle.{factAt, checkBundle, factsIn, factsOf}
 use Rattle.bundle.specs.declared.facts.Facts.{Facts}
-use Rattle.number.proofs.Answers.{went, passed}
 use Rattle.bundle.proofs.Accepted.{accepted-count}
 use Rattle.records.specs.Rows.{recordOf, handOut, handRecords, takeAt}
 use Rattle.records.specs.Told.{handed, decided, Hands}

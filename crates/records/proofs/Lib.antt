@@ -7,5 +7,6 @@ pub mod Locals
 pub mod Names
 pub mod OfReader
 pub mod OfRows
+pub mod OneAnswer
 pub mod Passes
 pub mod Turns

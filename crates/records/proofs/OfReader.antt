@@ -13,6 +13,7 @@ use Rattle.number.specs.Number.{numberAt}
 use Rattle.number.specs.declared.refusal.Refusal.{Refusal}
 use Rattle.number.proofs.Laws.{bounds, refused-how}
 use Rattle.number.proofs.Writing.{picked}
+use Rattle.number.proofs.Answers.{never}
 use Rattle.site.specs.declared.fact.Fact.{Fact}
 use Rattle.site.specs.Items.{codeAt}
 use Rattle.site.specs.Limits.{mostThing}
@@ -21,7 +22,6 @@ use Rattle.rules.specs.declared.head.Head.{Head}
 use Rattle.bundle.specs.Bundle.{Last, factAt, checkBundle, factsOf}
 use Rattle.bundle.specs.Told.{factRest}
 use Rattle.bundle.specs.declared.facts.Facts.{Facts}
-use Rattle.number.proofs.Answers.{never}
 use Rattle.bundle.proofs.Runs.{FactThere, fact-read, any-there, code-there, fact-by-rest, Run}
 use Rattle.bundle.proofs.Runs.Run.{stop, more}
 use Rattle.bundle.proofs.Accepted.{bundle-there}

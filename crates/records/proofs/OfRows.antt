@@ -10,6 +10,7 @@ use borrow.Author.Tests.{le-leb, leb-true, eqb-true, not-false}
 use Rattle.number.specs.Answer.{Answer, refusal, _then_, over}
 use Rattle.number.specs.Answer.Answer.{gives, refuses}
 use Rattle.number.proofs.Laws.{Bytes}
+use Rattle.number.proofs.Answers.{never, given-once as same-given, went, passed}
 use Rattle.site.specs.declared.fact.Fact.{Fact}
 use Rattle.site.specs.Kinds.{ofConcept}
 use Rattle.site.specs.Limits.{mostFacts, mostRoles, mostThing}
@@ -22,7 +23,6 @@ use Rattle.bundle.specs.Lawful.{LawfulFact, LawfulFrom, LawfulFacts}
 use Rattle.bundle.specs.Lawful.LawfulFrom.{done, next as one-more}
 use Rattle.bundle.specs.Records.{roomFor, recordFault, recordsFrom, planRecords}
 use Rattle.bundle.specs.declared.facts.Facts.{Facts}
-use Rattle.number.proofs.Answers.{never, given-once as same-given, went, passed}
 use Rattle.bundle.proofs.Accepted.{accepted-lawful}
 use Rattle.bundle.proofs.RoundTrips.{writtenHead, written-accepted, written-facts, accepted-again}
 use Rattle.bundle.proofs.Rewriting.{lawful-sound}

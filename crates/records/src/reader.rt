@@ -7,6 +7,7 @@ use crate::step::Yield;
 use crate::step::step_at;
 
 // "A reader that remembers the bundle and its next byte"
+#[repr(C)]
 pub struct Reader<'a> {
     pub src: &'a [u8],
     pub at: usize,
