@@ -23,7 +23,7 @@ fn read_file(path: &[u8], buffer: &mut [u8; 65536]) -> usize
 fn print_line(counted: Counted, marks: &[u8], partners: &[u16], number: usize)
     requires { ⌜ Prints counted (now marks) (now partners) number ⌝ }
 {
-    let mut line = [0u8; 128];
+    let mut line = [0u8; listing::ROOM];
     let length = listing::write_line(&mut line, counted, marks, partners, number);
     io::write_all(STDOUT_FILENO, &line[..length]);
 }

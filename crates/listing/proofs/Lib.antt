@@ -1,3 +1,4 @@
+pub mod Cases
 pub mod OfDecimals
 pub mod OfLines
 pub mod OfPutting

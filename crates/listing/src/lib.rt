@@ -3,6 +3,7 @@ mod lines;
 mod listing;
 mod put;
 
+pub use lines::ROOM;
 pub use lines::counts_line;
 pub use lines::fact_line;
 pub use lines::refusal_line;

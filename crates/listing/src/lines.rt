@@ -8,8 +8,16 @@ use crate::put::put_word;
 use clean::Counts;
 use number::Refusal;
 
+// The room of a line: none is longer, whatever its numbers of 64 bits are.
+pub const ROOM: usize = 128;
+
+// "0 kept, 1 alone, 2 disputed"
+const KEPT: u8 = 0;
+
+const ALONE: u8 = 1;
+
 // "The first line has the counts"
-pub fn counts_line(out: &mut [u8; 128], counts: Counts) -> usize
+pub fn counts_line(out: &mut [u8; ROOM], counts: Counts) -> usize
     ensures { λ r. ⌜ Line (now (out .entry)) (countsLine counts) r (now (out .exit)) ⌝ }
 {
     let a = put_named(out, 0, b"facts ", counts.facts as u64);
@@ -23,17 +31,17 @@ fn put_mark(out: &mut [u8], at: usize, mark: u8, partner: u16) -> usize
     requires { ⌜ at + 30 ≤ length (now out) ⌝ }
     ensures { λ r. ⌜ LaidMark (now (out .entry)) at mark partner r (now (out .exit)) ⌝ }
 {
-    if mark == 0 {
+    if mark == KEPT {
         return put_word(out, at, b" kept");
     }
-    if mark == 1 {
+    if mark == ALONE {
         return put_word(out, at, b" alone");
     }
     put_named(out, at, b" disputed ", partner as u64)
 }
 
 // "each other line has the fact's number, its mark, and for a disputed fact its partner"
-pub fn fact_line(out: &mut [u8; 128], number: usize, mark: u8, partner: u16) -> usize
+pub fn fact_line(out: &mut [u8; ROOM], number: usize, mark: u8, partner: u16) -> usize
     ensures { λ r. ⌜ Line (now (out .entry)) (factLine number mark partner) r (now (out .exit)) ⌝ }
 {
     let a = put_decimal(out, 0, number as u64);
@@ -52,7 +60,7 @@ fn put_place(out: &mut [u8], at: usize, side: u32, place: usize) -> usize
 }
 
 // "A refusal prints one line, as `refused 8 in bundle at 3`, or `in rules`."
-pub fn refusal_line(out: &mut [u8; 128], refusal: Refusal) -> usize
+pub fn refusal_line(out: &mut [u8; ROOM], refusal: Refusal) -> usize
     ensures { λ r. ⌜ Line (now (out .entry)) (refusalLine refusal) r (now (out .exit)) ⌝ }
 {
     let a = put_named(out, 0, b"refused ", refusal.number as u64);

@@ -3,6 +3,7 @@ ghost use mathlib.Core.Path.{_≡_};
 ghost use Rattle.operations.specs.Promises.{countedTold};
 ghost use Rattle.listing.specs.Lines.{Line};
 ghost use Rattle.listing.specs.Listing.{linesOf, lineAt, Within};
+use crate::lines::ROOM;
 use crate::lines::counts_line;
 use crate::lines::fact_line;
 use crate::lines::refusal_line;
@@ -19,7 +20,7 @@ pub fn count_lines(counted: Counted) -> usize
 
 // The line of this number, at the start of a lent line; the answer is its length.
 pub fn write_line(
-    out: &mut [u8; 128],
+    out: &mut [u8; ROOM],
     counted: Counted,
     marks: &[u8],
     partners: &[u16],

@@ -1,3 +1,4 @@
+-- Each read gives a part of its buffer, and marking fills both rows for every line that is printed.
 use Rattle.cleaner.proofs.OfPrinting.{printing}
 use Rattle.cleaner.proofs.main.Statement.{statement}
 use Rattle.cleaner.proofs.main.Tie as tie

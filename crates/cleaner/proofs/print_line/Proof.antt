@@ -1,3 +1,4 @@
+-- The line's fact has a mark and a partner, and what is written is the line's own start.
 use Rattle.cleaner.proofs.OfPrinting.{printing}
 use Rattle.cleaner.proofs.print_line.Statement.{statement}
 use Rattle.cleaner.proofs.print_line.Tie as tie

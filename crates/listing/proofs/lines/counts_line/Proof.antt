@@ -1,3 +1,4 @@
+-- The line is its five runs of bytes, one after the other from the start; each call finds room, since no number has more than 20 digits.
 use Rattle.listing.proofs.OfLines.{lines, counts-done}
 use Rattle.listing.proofs.lines.counts_line.Statement.{statement}
 use Rattle.listing.proofs.lines.counts_line.Tie as tie

@@ -1,3 +1,4 @@
+-- The line is the number, the mark and the newline, one after the other from the start.
 use Rattle.listing.proofs.OfLines.{lines, fact-done}
 use Rattle.listing.proofs.lines.fact_line.Statement.{statement}
 use Rattle.listing.proofs.lines.fact_line.Tie as tie

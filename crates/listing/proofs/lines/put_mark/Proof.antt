@@ -1,3 +1,4 @@
+-- Each test on the mark picks its word, and the last its partner.
 use Rattle.listing.proofs.OfLines.{lines}
 use Rattle.listing.proofs.lines.put_mark.Statement.{statement}
 use Rattle.listing.proofs.lines.put_mark.Tie as tie

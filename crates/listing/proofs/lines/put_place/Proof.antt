@@ -1,3 +1,4 @@
+-- The test on the side picks the word before the place.
 use Rattle.listing.proofs.OfLines.{lines}
 use Rattle.listing.proofs.lines.put_place.Statement.{statement}
 use Rattle.listing.proofs.lines.put_place.Tie as tie

@@ -1,3 +1,4 @@
+-- The line is the number, the side with its place, and the newline, one after the other from the start.
 use Rattle.listing.proofs.OfLines.{lines, refusal-done}
 use Rattle.listing.proofs.lines.refusal_line.Statement.{statement}
 use Rattle.listing.proofs.lines.refusal_line.Tie as tie

@@ -1,3 +1,4 @@
+-- Each case of the answer has its own count.
 use Rattle.listing.proofs.OfLines.{lines}
 use Rattle.listing.proofs.listing.count_lines.Statement.{statement}
 use Rattle.listing.proofs.listing.count_lines.Tie as tie

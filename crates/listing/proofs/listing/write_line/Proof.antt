@@ -1,3 +1,4 @@
+-- Each case of the answer, and the line that is not the first, has its own law.
 use Rattle.listing.proofs.OfLines.{lines}
 use Rattle.listing.proofs.listing.write_line.Statement.{statement}
 use Rattle.listing.proofs.listing.write_line.Tie as tie

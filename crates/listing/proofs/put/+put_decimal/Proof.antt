@@ -1,8 +1,9 @@
 -- A number's digits are its tenth's and then its last one. The measure is the number, which its tenth is below.
 use Prim.Native.Nat.{ℕ, _<_}
+use native.Mathlib.Omega.{arith}
 use borrow.Fn.Kinds.{In}
 use borrow.Fn.PlainCycle.{Measures, is, falls, and}
-use Rattle.listing.proofs.OfPutting.{putting}
+use Rattle.listing.proofs.OfPutting.{number-one, putting}
 use Rattle.listing.proofs.put.put_decimal.Reads as put-decimal
 use Rattle.listing.proofs.put.put_decimal.Kinds as put-decimal-kinds
 use Rattle.listing.proofs.put.+put_decimal.Lts-put_decimal as put-decimal-lts
@@ -28,7 +29,7 @@ pub +put-decimal-spec : {M : Type 1} → statement M
     (λ c. search putting)
     (λ c. search putting)
     (λ c. search putting)
-    (λ c. search putting)
+    (λ c. number-one _ _ _ (omega arith))
     (λ c κs. search putting)
     (λ c. search putting)
     (λ c. search putting)

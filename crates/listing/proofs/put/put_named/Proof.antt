@@ -1,3 +1,4 @@
+-- A word and then its number are one run of bytes.
 use Rattle.listing.proofs.OfPutting.{putting}
 use Rattle.listing.proofs.put.put_named.Statement.{statement}
 use Rattle.listing.proofs.put.put_named.Tie as tie
