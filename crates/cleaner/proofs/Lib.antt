@@ -1,1 +1,2 @@
+pub mod OfLongFiles
 pub mod OfPrinting
