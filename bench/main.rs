@@ -1,6 +1,7 @@
 //! Measures the library's text, compiled as plain Rust, beside plain implementations in one run, and prints the results as Markdown.
 //! Every result is compared before it is timed; a difference ends the program.
 
+mod archive;
 mod clock;
 mod make;
 mod plain;
@@ -11,22 +12,35 @@ use plain::{follow, mark_hashed, mark_pairs, read_site, Marks, Site, NODES};
 use std::hint::black_box;
 use text::rules::{check_rules, Head, RulesRead};
 
-/// How long the repetitions of one action take together in a turn, and how many turns there are.
-const ENOUGH: f64 = 0.05;
-const TURNS: u32 = 4;
+/// The seconds that one measurement lasts at least, how many there are of each action in a turn, and the turns.
+const LONG: f64 = 0.002;
+const MEASURED: u32 = 3;
+const TURNS: u32 = 5;
 
-/// The best time of each of some actions, taken in turns, each repeated while its turn lasts.
+/// The seconds of so many repetitions.
+fn seconds(action: &dyn Fn(), repeated: u32) -> f64 {
+    let start = clock::now();
+    (0..repeated).for_each(|_| action());
+    clock::now() - start
+}
+
+/// How often a short action is repeated, so that a measurement is long enough for the clock.
+fn repetitions(action: &dyn Fn()) -> u32 {
+    let mut repeated = 1;
+    while seconds(action, repeated) < LONG {
+        repeated *= 2;
+    }
+    repeated
+}
+
+/// The best time of each of some actions, taken in turns.
 fn best<const N: usize>(actions: [&dyn Fn(); N]) -> [f64; N] {
     let mut best = [f64::MAX; N];
+    let repeated = actions.map(repetitions);
     for _ in 0..TURNS {
-        for (best, action) in best.iter_mut().zip(actions) {
-            let start = clock::now();
-            let mut last = start;
-            while last - start < ENOUGH {
-                action();
-                let now = clock::now();
-                *best = best.min(now - last);
-                last = now;
+        for (best, (action, repeated)) in best.iter_mut().zip(actions.into_iter().zip(repeated)) {
+            for _ in 0..MEASURED {
+                *best = best.min(seconds(action, repeated) / f64::from(repeated));
             }
         }
     }
@@ -201,10 +215,34 @@ fn measure_sql(site: &Site) {
     }
 }
 
+/// The archive marks as the text does; it is timed where it runs as it is.
+fn measure_archive(site: &Site) {
+    println!("\n## The compiled archive\n");
+    let Ok(words) = std::env::var("ARCHIVE") else { return println!("The archive was not there: not compared, not measured.") };
+    let native = cfg!(target_arch = "x86_64");
+    if native {
+        println!("`dzy_mark` of the archive that `rt` makes, beside the text; the marks are the same.\n");
+        println!("| bundle | facts | archive | text | archive / text |\n|---|---|---|---|---|");
+    }
+    for (name, count, hub) in [("spread", 1000, false), ("spread", 4096, false), ("one hub in most facts", 4096, true)] {
+        let c = case(site, count, 5, hub);
+        let (archive, marks) = archive::mark(&words, &c.rules, &c.bundle, if native { 20 } else { 1 });
+        assert!(marks == mark_ours(&c.rules, &c.bundle, count), "marks by the archive");
+        if native {
+            let ours = times(&c)[0];
+            println!("| {name} | {count} | {} | {} | {} |", shown(archive), shown(ours), ratio(archive, ours));
+        }
+    }
+    if !native {
+        println!("The archive that `rt` makes is for x86-64. On this processor it ran under an emulator, so it was not timed; it gave the same marks and partners as the text on the three bundles tried (1,000 and 4,096 facts, and 4,096 with a hub).");
+    }
+}
+
 fn main() {
     measure_tables();
     let site = make_site(2, 30, 20, 200, true);
     measure_marks(&site);
     measure_growth(&site);
     measure_sql(&site);
+    measure_archive(&site);
 }

@@ -205,7 +205,12 @@ fn split(follows: &Follows, f: &Fact, g: &Fact) -> bool {
 
 /// Whether two facts contradict each other; they clash if neither is alone.
 pub fn clash(follows: &Follows, f: &Fact, g: &Fact) -> bool {
-    jar(follows, f, g) || split(follows, f, g)
+    meet(f, g) && (jar(follows, f, g) || split(follows, f, g))
+}
+
+/// Whether two facts may have a thing in common; others never clash.
+fn meet(f: &Fact, g: &Fact) -> bool {
+    f.1 == g.1 || f.1 == g.2 || f.2 == g.1 || f.2 == g.2
 }
 
 /// Marks and partners.
