@@ -57,7 +57,11 @@ fn shown(seconds: f64) -> String {
 
 fn ratio(ours: f64, theirs: f64) -> String {
     let r = ours / theirs;
-    if r >= 10.0 { format!("{r:.0}") } else { format!("{r:.2}") }
+    if r >= 10.0 {
+        format!("{r:.0}")
+    } else {
+        format!("{r:.2}")
+    }
 }
 
 /// What the library's text fills.
@@ -100,10 +104,9 @@ fn table_line(name: &str, site: &Site) {
     let rules = rule_bytes(site);
     let (included, excluded) = same_tables(&rules);
     let head = head_of(&rules);
-    let [ours, theirs] = best([
-        &|| drop(black_box(fill(black_box(&rules), head))),
-        &|| drop(black_box(follow(&read_site(black_box(&rules))))),
-    ]);
+    let [ours, theirs] = best([&|| drop(black_box(fill(black_box(&rules), head))), &|| {
+        drop(black_box(follow(&read_site(black_box(&rules)))))
+    }]);
     let (r, ours, theirs) = (ratio(ours, theirs), shown(ours), shown(theirs));
     println!("| {name} | {included} | {excluded} | {ours} | {theirs} | {r} |");
 }
@@ -161,7 +164,14 @@ fn percent(c: &Case) -> String {
 fn mark_line(name: &str, c: &Case) {
     let [ours, pairs, hashed] = times(c);
     let (p, q) = (ratio(ours, pairs), ratio(ours, hashed));
-    println!("| {name} | {} | {} | {} | {} | {} | {p} | {q} |", c.count, percent(c), shown(ours), shown(pairs), shown(hashed));
+    println!(
+        "| {name} | {} | {} | {} | {} | {} | {p} | {q} |",
+        c.count,
+        percent(c),
+        shown(ours),
+        shown(pairs),
+        shown(hashed)
+    );
 }
 
 fn measure_marks(site: &Site) {
@@ -199,7 +209,14 @@ fn sql_line(name: &str, c: &Case) -> bool {
         seconds = seconds.min(took);
     }
     let [ours, _, hashed] = times(c);
-    println!("| {name} | {} | {} | {} | {} | {} |", c.count, shown(ours), shown(seconds), ratio(ours, seconds), ratio(hashed, seconds));
+    println!(
+        "| {name} | {} | {} | {} | {} | {} |",
+        c.count,
+        shown(ours),
+        shown(seconds),
+        ratio(ours, seconds),
+        ratio(hashed, seconds)
+    );
     true
 }
 
@@ -207,7 +224,12 @@ fn measure_sql(site: &Site) {
     println!("\n## The same cleaning as SQL in SQLite\n");
     println!("Tables of the facts' types and of the excluded pairs, with indexes, in memory; joins find the marks and the partners. Timed is the cleaning alone: the exclusions are handed over, and neither filling the tables nor reading the result counts. The text's time is the whole call.\n");
     println!("| bundle | facts | text | SQLite | text / SQLite | hash maps / SQLite |\n|---|---|---|---|---|---|");
-    for (name, count, hub) in [("spread", 1000, false), ("spread", 3000, false), ("spread", 4096, false), ("one hub in most facts", 4096, true)] {
+    for (name, count, hub) in [
+        ("spread", 1000, false),
+        ("spread", 3000, false),
+        ("spread", 4096, false),
+        ("one hub in most facts", 4096, true),
+    ] {
         if !sql_line(name, &case(site, count, 5, hub)) {
             println!("\nThe command sqlite3 was not there: not measured.");
             return;
@@ -218,13 +240,16 @@ fn measure_sql(site: &Site) {
 /// The archive marks as the text does; it is timed where it runs as it is.
 fn measure_archive(site: &Site) {
     println!("\n## The compiled archive\n");
-    let Ok(words) = std::env::var("ARCHIVE") else { return println!("The archive was not there: not compared, not measured.") };
+    let Ok(words) = std::env::var("ARCHIVE") else {
+        return println!("The archive was not there: not compared, not measured.");
+    };
     let native = cfg!(target_arch = "x86_64");
     if native {
         println!("`dzy_mark` of the archive that `rt` makes, beside the text; the marks are the same.\n");
         println!("| bundle | facts | archive | text | archive / text |\n|---|---|---|---|---|");
     }
-    for (name, count, hub) in [("spread", 1000, false), ("spread", 4096, false), ("one hub in most facts", 4096, true)] {
+    for (name, count, hub) in [("spread", 1000, false), ("spread", 4096, false), ("one hub in most facts", 4096, true)]
+    {
         let c = case(site, count, 5, hub);
         let (archive, marks) = archive::mark(&words, &c.rules, &c.bundle, if native { 20 } else { 1 });
         assert!(marks == mark_ours(&c.rules, &c.bundle, count), "marks by the archive");

@@ -21,7 +21,11 @@ impl Dice {
 }
 
 fn concept(dice: &mut Dice, site: &Site) -> u32 {
-    if dice.below(3) > 0 { dice.below(site.concepts) } else { 64 + dice.below(2 * site.roles) }
+    if dice.below(3) > 0 {
+        dice.below(site.concepts)
+    } else {
+        64 + dice.below(2 * site.roles)
+    }
 }
 
 /// Half inclusions, most of the others exclusions. The last fifth of the roles may be functional and includes no role.

@@ -278,7 +278,11 @@ impl Index {
         });
         let splits = once(follows, f).map(|key| {
             let two = self.joined[&key];
-            if two[0] == i { two[1] } else { two[0] }
+            if two[0] == i {
+                two[1]
+            } else {
+                two[0]
+            }
         });
         jars.chain(splits).min().unwrap_or(NONE)
     }

@@ -52,7 +52,8 @@ fn script(rules: &[u8], bundle: &[u8]) -> String {
 
 /// The seconds of processor time of the cleaning alone, once the tables are there, and its marks; nothing if there is no sqlite3.
 pub fn clean(rules: &[u8], bundle: &[u8], count: usize) -> Option<(f64, Marks)> {
-    let started = Command::new("sqlite3").args(["-list", ":memory:"]).stdin(Stdio::piped()).stdout(Stdio::piped()).spawn();
+    let started =
+        Command::new("sqlite3").args(["-list", ":memory:"]).stdin(Stdio::piped()).stdout(Stdio::piped()).spawn();
     let mut child = started.ok()?;
     let text = script(rules, bundle);
     let mut input = child.stdin.take()?;
