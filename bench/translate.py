@@ -8,7 +8,18 @@ import pathlib
 import re
 import sys
 
-CRATES = ["number", "site", "rules", "bundle", "follows", "clean", "operations", "dzyunagor"]
+ROOT = pathlib.Path(__file__).resolve().parent.parent
+FACE = "dzyunagor"
+
+
+def crates():
+    """The library's face and all that it stands on, as crates.txt lists them."""
+    lines = (ROOT / "crates.txt").read_text().splitlines()
+    listed = dict(line.split(":", 1) for line in lines if ":" in line and not line.startswith("#"))
+    return listed[FACE].split() + [FACE]
+
+
+CRATES = crates()
 CLAUSE = re.compile(r"^\s*(requires|ensures)\s*\{")
 PATH = re.compile(r"(?<![\w:])(crate|" + "|".join(CRATES) + r")::")
 
@@ -32,11 +43,10 @@ def translated(text, crate):
 
 
 def main():
-    root = pathlib.Path(__file__).resolve().parent.parent
     out = pathlib.Path(sys.argv[1])
     for crate in CRATES:
         (out / crate).mkdir(parents=True, exist_ok=True)
-        for source in sorted((root / "crates" / crate / "src").glob("*.rt")):
+        for source in sorted((ROOT / "crates" / crate / "src").glob("*.rt")):
             name = "mod.rs" if source.stem == "lib" else source.stem + ".rs"
             (out / crate / name).write_text(translated(source.read_text(), crate))
     modules = "".join(f"pub mod {crate};\n" for crate in CRATES)
