@@ -1,5 +1,7 @@
 pub mod Accepted
 pub mod Cases
+pub mod FactBytes
+pub mod Faults
 pub mod Longest
 pub mod OneAnswer
 pub mod Pushing
@@ -10,3 +12,4 @@ pub mod RoundTrips
 pub mod Runs
 pub mod Storing
 pub mod SubLawful
+pub mod TwoPasses

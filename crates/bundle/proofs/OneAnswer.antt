@@ -1,10 +1,11 @@
 -- Each answer of the code says one thing only: what an answer is told to be determines it, so that every contract leaves one answer.
 use Prim.Native.Nat.{ℕ}
-use mathlib.Core.Path.{_≡_, refl, sym, ap, _∙_}
+use mathlib.Core.Path.{_≡_, refl}
 use mathlib.Core.Bool.{Bool}
 use mathlib.Core.List.{List}
 use Rattle.number.specs.Answer.{Answer, Read}
 use Rattle.number.specs.Answer.Answer.{gives, refuses}
+use Rattle.number.proofs.One.{one, undone, Same}
 use Rattle.site.specs.declared.fact.Fact.{Fact}
 use Rattle.rules.specs.declared.head.Head.{Head}
 use Rattle.bundle.specs.Again.{WritesAgain}
@@ -19,10 +20,6 @@ use Rattle.bundle.specs.declared.check.BundleRead.the-variants.{Accepted
 use Rattle.bundle.specs.declared.writing.Writing.{Writing}
 use Rattle.bundle.specs.declared.writing.BundleWrote.{BundleWrote}
 use Rattle.bundle.specs.declared.writing.BundleWrote.the-variants.{Written, Refused}
-
--- what can be undone tells its arguments apart
-undone : {A B : Type 0} (f : A → B) (back : B → A) → ((a : A) → back (f a) ≡ a) → (a a′ : A) → f a ≡ f a′ → a ≡ a′
-undone f back is a a′ e = sym (is a) ∙ ap back e ∙ is a′
 
 fact-back : Answer (Read Fact) → FactRead
 fact-back (gives r) = ReadFact (r .value) (r .next)
@@ -50,25 +47,17 @@ wrote-told-apart = undone wroteTold wrote-back (elim [ Written n ↦ refl | Refu
 
 -- reading leaves one answer
 pub one-fact : (known : ℕ → Bool) (s : List ℕ) (at : ℕ) (r r′ : FactRead) → factTold r ≡ factAt known s at → factTold r′ ≡ factAt known s at → r ≡ r′
-one-fact known s at r r′ e e′ = fact-told-apart r r′ (e ∙ sym e′)
+one-fact known s at r r′ e e′ = fact-told-apart r r′ (one e e′)
 
 pub one-bundle : (h : Head) (s : List ℕ) (r r′ : BundleRead) → bundleTold r ≡ checkBundle h s → bundleTold r′ ≡ checkBundle h s → r ≡ r′
-one-bundle h s r r′ e e′ = bundle-told-apart r r′ (e ∙ sym e′)
+one-bundle h s r r′ e e′ = bundle-told-apart r r′ (one e e′)
 
 -- and so does writing, of the answer and of the lent memory
-pub record SameWriting (r r′ : BundleWrote) (out out′ : List ℕ) : Type 0 where
-  pub answer : r ≡ r′
-  pub memory : out ≡ out′
-
 pub one-writing : (h : Head) (s out : List ℕ) (r r₂ : BundleWrote) (out′ out₂′ : List ℕ) → WritesAgain h s out r out′ → WritesAgain h s out r₂ out₂′
-    → SameWriting r r₂ out′ out₂′
+    → Same r r₂ out′ out₂′
 one-writing h s out r r₂ out′ out₂′ w w₂ =
-    record { answer = wrote-told-apart r r₂ (w .answer ∙ sym (w₂ .answer)); memory = w .memory ∙ sym (w₂ .memory) }
-
-pub record SamePush (w w′ : Writing) (out out′ : List ℕ) : Type 0 where
-  pub state : w ≡ w′
-  pub memory : out ≡ out′
+    record { answer = wrote-told-apart r r₂ (one (w .answer) (w₂ .answer)); memory = one (w .memory) (w₂ .memory) }
 
 pub one-push : (h : Head) (out : List ℕ) (w : Writing) (f : Fact) (r r₂ : Writing) (out′ out₂′ : List ℕ) → Pushes h out w f r out′ → Pushes h out w f r₂ out₂′
-    → SamePush r r₂ out′ out₂′
-one-push h out w f r r₂ out′ out₂′ p p₂ = record { state = p .state ∙ sym (p₂ .state); memory = p .memory ∙ sym (p₂ .memory) }
+    → Same r r₂ out′ out₂′
+one-push h out w f r r₂ out′ out₂′ p p₂ = record { answer = one (p .state) (p₂ .state); memory = one (p .memory) (p₂ .memory) }

@@ -39,8 +39,10 @@ use Rattle.bundle.proofs.Runs.Run.{stop, more}
 use Rattle.bundle.proofs.Accepted.{lawful-fact, BundleThere, bundle-there}
 use Rattle.bundle.proofs.Longest.{declared-low}
 use Rattle.bundle.proofs.RoundTrips.{accepted-again}
-use Rattle.bundle.proofs.Pushing.{Sound, pass-keeps, start-storing, TwoPasses, two-passes}
-use Rattle.bundle.proofs.Pushing.Sound.{no-more, sound}
+use Rattle.bundle.proofs.Faults.{Sound}
+use Rattle.bundle.proofs.Pushing.{pass-keeps}
+use Rattle.bundle.proofs.TwoPasses.{start-storing, TwoPasses, two-passes}
+use Rattle.bundle.proofs.Faults.Sound.{no-more, sound}
 
 -- lawful facts are pushed without a fault
 module _ (h : Head) where

@@ -10,14 +10,13 @@ use native.Mathlib.Omega.{arith}
 use Rattle.number.specs.Answer.{Answer, Read, refusal, _then_}
 use Rattle.number.specs.Answer.Answer.{gives, refuses}
 use Rattle.number.specs.Number.{numberAt}
-use Rattle.number.specs.declared.refusal.Refusal.{Refusal}
 use Rattle.site.specs.declared.fact.Fact.{Fact}
 use Rattle.site.specs.Items.{codeAt}
 use Rattle.site.specs.Kinds.{ofConcept}
 use Rattle.site.specs.Limits.{mostNumber, mostThing}
 use Rattle.bundle.specs.Bundle.{Last, factAt, ascends, factsFrom, factsIn}
 use Rattle.bundle.specs.Bundle.Last.{after}
-use Rattle.number.proofs.Answers.{never, given-once as same-given, passed, went}
+use Rattle.number.proofs.Answers.{given-once as same-given, passed, went}
 use Rattle.bundle.specs.Told.{factRest}
 
 pub record CodeThere (s : List ℕ) (at : ℕ) (known : ℕ → Bool) (side : ℕ) (p : Read ℕ) : Type 0 where

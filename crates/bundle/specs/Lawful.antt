@@ -1,7 +1,7 @@
 -- What an accepted bundle's facts are: of declared predicates, about things within the limit, a concept's without object, and ascending.
-use Prim.Native.Nat.{ℕ, _≤_}
+use Prim.Native.Nat.{_≤_}
 use mathlib.Core.Path.{_≡_}
-use mathlib.Core.Bool.{Bool, true}
+use mathlib.Core.Bool.{true}
 use mathlib.Core.List.{List, [], _∷_}
 use lib.ListN.{length}
 use Rattle.site.specs.declared.fact.Fact.{Fact}

@@ -1,9 +1,8 @@
 -- Two tests of what follows that agree on declared nodes give declared facts the same marks, partners, counts, kept facts and answers.
 use Prim.Native.Nat.{ℕ, _+_, _-_}
-use mathlib.Core.Path.{_≡_, refl, sym, ap, subst, _∙_}
-use mathlib.Core.Bool.{Bool, true, false, cond, _&&_, _||_, not}
+use mathlib.Core.Path.{_≡_, refl, sym, ap, _∙_}
+use mathlib.Core.Bool.{Bool, true, false, _&&_, not}
 use mathlib.Core.List.{List, [], _∷_, map, List·Memᴰ, List·Memᴰ·head, List·Memᴰ·tail}
-use lib.ListN.{length}
 use lib.Dec.{eqb, ltb}
 use Rattle.site.specs.declared.fact.Fact.{Fact}
 use Rattle.site.specs.Kinds.{BasicRole, Node, Site, ofConcept, sameNode, declared, declaredRole}
@@ -13,9 +12,9 @@ use Rattle.site.specs.Limits.{noPartner}
 use Rattle.site.specs.Lists.{any, count, keep, first}
 use Rattle.site.proofs.Lists.{same-test}
 use Rattle.follows.specs.Tables.{Follows}
-use Rattle.clean.specs.Types.{Typ, typ, typesOf, itself}
-use Rattle.clean.specs.Marks.{samePlace, functionalNode, jar, split, meet, alone, contradict, clash, mark, partner, marks, partners, marked, counts, kept, supports, support}
-use Rattle.clean.proofs.OfTypes.{TypeOf, meet-some, some-meet, listed-of}
+use Rattle.clean.specs.Types.{Typ, itself}
+use Rattle.clean.specs.Marks.{samePlace, functionalNode, jar, split, meet, alone, contradict, clash, mark, partner, marks, partners, marked, counts, kept}
+use Rattle.clean.proofs.OfTypes.{TypeOf, meet-some, some-meet}
 use Rattle.clean.proofs.OfTypes.TypeOf.{is-a, has, had, joins, joined}
 
 -- tests that agree on the elements of a list

@@ -1,15 +1,14 @@
 -- Picking a fact by its number, and the lowest kept fact that supports a question, turn by turn.
-use Prim.Native.Nat.{ℕ, zero, suc, _+_, _-_, _≤_, _<_}
-use mathlib.Core.Path.{_≡_, refl, sym, ap, subst, _∙_}
+use Prim.Native.Nat.{ℕ, suc, _+_, _-_, _≤_, _<_}
+use mathlib.Core.Path.{_≡_, refl, sym, ap, _∙_}
 use mathlib.Core.Bool.{Bool, true, false, _&&_, and-true, and-false}
 use mathlib.Core.List.{List, [], _∷_}
-use lib.ListN.{length, getD}
+use lib.ListN.{getD}
 use lib.Dec.{eqb}
 use native.Mathlib.Omega.{arith}
 use borrow.Author.Needs.{needs}
 use Rattle.number.specs.declared.refusal.Refusal.{Refusal}
 use Rattle.site.specs.declared.fact.Fact.{Fact}
-use Rattle.site.specs.Lists.{any, first}
 use Rattle.bundle.specs.Bundle.{factAt, factsIn, factsOf}
 use Rattle.bundle.specs.Told.{factTold}
 use Rattle.bundle.specs.declared.facts.Facts.{Facts}

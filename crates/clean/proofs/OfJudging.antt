@@ -1,6 +1,6 @@
 -- A mark and a partner from the lowest clash: there is one exactly if the search ended below 65,535.
 use Prim.Native.Nat.{ℕ, _≤_, _<_}
-use mathlib.Core.Path.{_≡_, refl, sym, ap, subst, _∙_}
+use mathlib.Core.Path.{_≡_, subst}
 use mathlib.Core.Bool.{Bool, true, false, cond, _&&_, not}
 use mathlib.Core.List.{List, []}
 use lib.ListN.{length}

@@ -1,5 +1,5 @@
 -- The kept facts as bytes: what one turn of the measuring and of the storing walk leaves to the facts that are left.
-use Prim.Native.Nat.{ℕ, zero, suc, _+_, _-_, _*_, _^_, _≤_, _<_}
+use Prim.Native.Nat.{ℕ, _+_, _-_, _*_, _≤_, _<_}
 use mathlib.Core.Path.{_≡_, refl, sym, ap, subst, _∙_}
 use mathlib.Core.Bool.{Bool, true, false, cond}
 use mathlib.Core.List.{List, [], _∷_, _++_}
@@ -7,28 +7,25 @@ use lib.ListN.{length, length-append}
 use lib.Seq.{sets, length-sets}
 use lib.Dec.{eqb}
 use mir.Val.{Fits}
-use mir.Syntax.{w32, w64}
+use mir.Syntax.{w64}
 use native.Mathlib.Nat.{zero-add, add-zero}
 use native.Mathlib.Omega.{arith}
 use borrow.Author.Needs.{needs}
-use Rattle.number.specs.Answer.{Answer, Read}
-use Rattle.number.specs.Answer.Answer.{gives, refuses}
-use Rattle.number.specs.Number.{bytesOf, threeBytes}
+use Rattle.number.specs.Number.{bytesOf}
 use Rattle.number.specs.declared.refusal.Refusal.{Refusal}
 use Rattle.number.proofs.Laws.{bounds, at-most-three}
 use Rattle.site.specs.declared.fact.Fact.{Fact}
 use Rattle.site.specs.Kinds.{ofConcept}
 use Rattle.site.specs.Limits.{mostFacts, mostThing}
 use Rattle.site.specs.Lists.{keep, each}
-use Rattle.bundle.specs.Bundle.{factAt, factsIn, factsOf, factBytes}
+use Rattle.bundle.specs.Bundle.{factAt, factsIn, factBytes}
 use Rattle.bundle.specs.Pushed.{StoresFact, StoredFact}
 use Rattle.bundle.specs.Told.{factTold}
-use Rattle.bundle.specs.declared.facts.Facts.{Facts}
 use Rattle.bundle.specs.declared.one.FactRead.{FactRead}
 use Rattle.bundle.specs.declared.one.FactRead.the-variants.{Read as ReadFact, Refused as NoFact}
 use Rattle.bundle.proofs.Runs.{FactThere, ObjectThere, fact-there}
 use Rattle.bundle.proofs.Runs.ObjectThere.{of-concept, of-role}
-use Rattle.bundle.proofs.Storing.{sets-append}
+use Rattle.bundle.proofs.FactBytes.{sets-append}
 use Rattle.follows.specs.Tables.{Follows}
 use Rattle.clean.specs.Types.{itself}
 use Rattle.clean.specs.Marks.{mark, marked, partner, kept}

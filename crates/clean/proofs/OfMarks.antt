@@ -9,7 +9,7 @@ use lib.Dec.{eqb}
 use lib.ListN.{length}
 use native.Mathlib.Omega.{arith}
 use Rattle.site.specs.declared.fact.Fact.{Fact}
-use Rattle.site.specs.Lists.{any, count}
+use Rattle.site.specs.Lists.{any}
 use Rattle.site.proofs.Lists.{Passing, any-found, any-of, any-none, is-false, true-not-false, length-keep, OneOfThree, counts-add}
 use Rattle.site.proofs.Lists.OneOfThree.{one, two, three}
 use Rattle.follows.specs.Tables.{Follows}

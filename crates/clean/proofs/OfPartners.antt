@@ -16,7 +16,7 @@ use Rattle.rules.specs.Lawful.{Lawful}
 use Rattle.follows.specs.Tables.{Follows, followsOf}
 use Rattle.follows.specs.Decides.{Decides}
 use Rattle.follows.proofs.Decided.{decides}
-use Rattle.clean.specs.Marks.{alone, clash, mark, partner}
+use Rattle.clean.specs.Marks.{clash, mark, partner}
 use Rattle.clean.proofs.OfClash.{clash-symmetric, clash-irreflexive}
 use Rattle.clean.proofs.OfMarks.{mark-2, clash-disputes}
 

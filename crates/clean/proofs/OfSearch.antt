@@ -1,6 +1,6 @@
 -- The search for the lowest clash: what its tests say of `clash`, turn by turn.
-use Prim.Native.Nat.{ℕ, zero, suc, _+_, _-_, _≤_, _<_}
-use mathlib.Core.Path.{_≡_, refl, sym, ap, subst, _∙_}
+use Prim.Native.Nat.{ℕ, _+_, _-_, _≤_, _<_}
+use mathlib.Core.Path.{_≡_, refl, sym, _∙_}
 use mathlib.Core.Bool.{Bool, true, false, _&&_, not, and-comm}
 use mathlib.Core.List.{List, [], _∷_}
 use borrow.Author.Needs.{needs}
@@ -8,9 +8,8 @@ use Rattle.number.specs.declared.refusal.Refusal.{Refusal}
 use Rattle.site.specs.declared.fact.Fact.{Fact}
 use Rattle.site.specs.Limits.{noPartner}
 use Rattle.site.specs.Lists.{first}
-use Rattle.bundle.specs.Bundle.{factAt, factsIn, factsOf}
+use Rattle.bundle.specs.Bundle.{factAt}
 use Rattle.bundle.specs.Told.{factTold}
-use Rattle.bundle.specs.declared.facts.Facts.{Facts}
 use Rattle.bundle.specs.declared.one.FactRead.{FactRead}
 use Rattle.bundle.specs.declared.one.FactRead.the-variants.{Read as ReadFact, Refused as NoFact}
 use Rattle.clean.specs.Types.{itself}

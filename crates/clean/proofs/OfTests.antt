@@ -1,10 +1,10 @@
 -- What the code's tests on two facts say of jarring, splitting, contradicting and being alone.
-use Prim.Native.Nat.{ℕ, zero, suc, _+_, _-_, _*_, _/_, _%_, _^_, _≤_, _<_}
-use mathlib.Core.Path.{_≡_, refl, sym, ap, subst, _∙_}
+use Prim.Native.Nat.{ℕ, _+_, _-_, _*_, _/_, _%_, _^_, _≤_, _<_}
+use mathlib.Core.Path.{_≡_, refl, sym, ap, _∙_}
 use mathlib.Core.Bool.{Bool, true, false, cond, _&&_, _||_, not, or-false, and-false, and-true}
 use mathlib.Core.List.{List, [], _∷_, map}
 use mathlib.Core.Logic.{_⊎_, inl, inr}
-use lib.Dec.{eqb, ltb}
+use lib.Dec.{eqb}
 use native.Mathlib.Decide.{ℕ-discrete}
 use native.Mathlib.Omega.{arith}
 use borrow.Author.Tests.{lt-ltb, le-ltb, eq-eqb, ne-eqb, ltb-false, eqb-true, not-true}
@@ -12,12 +12,11 @@ use borrow.Author.Needs.{needs}
 use Rattle.site.specs.declared.fact.Fact.{Fact}
 use Rattle.site.specs.Kinds.{Node, ofConcept, sameNode}
 use Rattle.site.proofs.Lists.{and-left, and-right, is-false, true-not-false}
-use Rattle.site.specs.Codes.{nodeCode, roleCode}
 use Rattle.site.specs.Lists.{any}
 use Rattle.follows.specs.Bits.{has as hasBit, bitOf}
 use Rattle.follows.specs.Tables.{Follows}
 use Rattle.clean.specs.Types.{Typ as SaidTyp, typesOf, itself, conceptTypes, roleTypes}
-use Rattle.clean.specs.Marks.{samePlace, functionalNode, jar, split, meet, alone, contradict, clash}
+use Rattle.clean.specs.Marks.{samePlace, functionalNode, jar, split, meet, alone, contradict}
 use Rattle.clean.specs.Coded.{code, codedTypes, hasRole, bitsFollow, relatedAt, splitCoded, far}
 use Rattle.clean.specs.declared.types.Typ.{Typ}
 use Rattle.clean.proofs.OfTypes.{TypeOf, meet-some}
@@ -67,7 +66,7 @@ module _ (functional code a c b d : ℕ) where
   split-to e k = rw (eq-eqb b d k, and-false)
 
   pub split-both : a ≡ c → (b ≡ d → ⊥) → (r : Bool) → r ≡ hasRole functional code → r ≡ (hasRole functional code && eqb a c && not (eqb b d))
-  split-both e k r is = rw (eq-eqb a c e, ne-eqb b d k, and-true, and-true) is
+  split-both e k r is = rw (eq-eqb a c e, ne-eqb b d k, and-true (hasRole functional code && true), and-true (hasRole functional code)) is
 
 module _ (functional : ℕ) (f g : Fact) where
   module _ (b : Bool) (is-b : b ≡ ofConcept f) where
@@ -189,8 +188,8 @@ module _ (included excluded : List ℕ) (functional : ℕ) where
       || hasRole functional (2 * (f .predicate - 64) + 1) && eqb (f .object) (g .object) && not (eqb (f .subject) (g .subject))))
   unfolding any split
   split-types f g true true h k = simp (and-false, or-false)
-  split-types f g true false h k = simp (and-false, or-false)
-  split-types f g false true h k = simp (and-false, or-false)
+  split-types f g true false h k = simp (or-false)
+  split-types f g false true h k = simp (or-false)
   split-types f g false false h k =
       simp (and-false, or-false)
       (rw (same-role (f .predicate) (g .predicate) (h refl) (k refl))

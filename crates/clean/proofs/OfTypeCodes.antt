@@ -1,18 +1,15 @@
 -- The types of a fact by the numbers of their nodes: which they are, and what a test of them finds one after the other.
-use Prim.Native.Nat.{ℕ, zero, suc, _+_, _-_, _*_, _≤_, _<_}
-use mathlib.Core.Path.{_≡_, refl, sym, ap, subst, _∙_}
-use mathlib.Core.Bool.{Bool, true, false, cond, _&&_, _||_, not, or-false}
-use mathlib.Core.List.{List, [], _∷_, map}
-use lib.Dec.{eqb, ltb}
+use Prim.Native.Nat.{ℕ, _+_, _-_, _*_, _<_}
+use mathlib.Core.Path.{_≡_, sym, _∙_}
+use mathlib.Core.Bool.{Bool, true, false, or-false}
+use mathlib.Core.List.{List, [], _∷_}
 use native.Mathlib.Omega.{arith}
-use borrow.Author.Tests.{lt-ltb, le-ltb, le-leb, lt-leb, eq-eqb, ne-eqb, ltb-true, ltb-false}
 use borrow.Author.Needs.{needs}
 use Rattle.site.specs.declared.fact.Fact.{Fact}
 use Rattle.site.specs.Kinds.{ofConcept}
-use Rattle.site.specs.Codes.{nodeCode}
 use Rattle.site.specs.Lists.{any}
-use Rattle.clean.specs.Types.{typesOf, itself}
-use Rattle.clean.specs.Coded.{code, codedTypes}
+use Rattle.clean.specs.Types.{typesOf}
+use Rattle.clean.specs.Coded.{codedTypes}
 use Rattle.clean.specs.declared.types.Typ.{Typ}
 
 abbrev typ-of : ℕ → ℕ → ℕ → Typ

@@ -1,6 +1,6 @@
 -- The same tests over numbers: types by the numbers of their nodes, and what follows as tables of bits.
 use Prim.Native.Nat.{ℕ, _+_, _-_, _*_}
-use mathlib.Core.Bool.{Bool, true, false, cond, _&&_, _||_, not}
+use mathlib.Core.Bool.{Bool, _&&_, _||_, not}
 use mathlib.Core.List.{List, [], map}
 use lib.Dec.{eqb, ltb}
 use Rattle.site.specs.declared.fact.Fact.{Fact}

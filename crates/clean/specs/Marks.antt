@@ -1,11 +1,11 @@
 -- "Marks, partners, answers", in document 01's order: alone, clash, marks, partners, counts, questions, the kept facts.
-use Prim.Native.Nat.{ℕ, zero, suc}
-use mathlib.Core.Bool.{Bool, true, false, cond, _&&_, _||_, not}
+use Prim.Native.Nat.{ℕ}
+use mathlib.Core.Bool.{Bool, false, cond, _&&_, _||_, not}
 use mathlib.Core.List.{List, map}
 use lib.ListN.{length}
 use lib.Dec.{eqb}
 use Rattle.site.specs.declared.fact.Fact.{Fact}
-use Rattle.site.specs.Kinds.{BasicRole, Node, sameNode}
+use Rattle.site.specs.Kinds.{Node, sameNode}
 use Rattle.site.specs.Kinds.Node.{concept, role}
 use Rattle.site.specs.Limits.{noPartner}
 use Rattle.site.specs.Lists.{any, count, keep, first}

@@ -1,17 +1,15 @@
 -- What each operation answers, and what it leaves in lent memory: "Order: rules, then bundle, then arguments, then room."
 use Prim.Native.Nat.{ℕ}
-use mathlib.Core.Bool.{Bool, true, false, cond, _&&_, not}
-use mathlib.Core.List.{List, []}
+use mathlib.Core.Bool.{cond, _&&_}
+use mathlib.Core.List.{List}
 use lib.ListN.{length, getD}
 use lib.Dec.{leb, ltb}
-use lib.Seq.{sets}
-use Rattle.number.specs.Answer.{Answer, refusal, _then_, over, laid}
+use Rattle.number.specs.Answer.{Answer, refusal, _then_}
 use Rattle.number.specs.Answer.Answer.{gives, refuses}
 use Rattle.site.specs.declared.fact.Fact.{Fact}
-use Rattle.site.specs.Kinds.{BasicConcept, BasicRole, Node, Site}
 use Rattle.site.specs.Kinds.Node.{concept, role}
 use Rattle.site.specs.Codes.{conceptOf, roleOf, conceptDeclared, roleDeclared}
-use Rattle.site.specs.Limits.{mostThing, noPartner}
+use Rattle.site.specs.Limits.{mostThing}
 use Rattle.rules.specs.declared.head.Head.{Head}
 use Rattle.rules.specs.RuleFile.{checkRules, siteOf}
 use Rattle.bundle.specs.Bundle.{readBundle, bundleOf}

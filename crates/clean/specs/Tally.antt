@@ -1,14 +1,12 @@
 -- Counting facts by their marks, one after the other.
 use Prim.Native.Nat.{ℕ, _+_, _≤_, _<_}
 use mathlib.Core.Path.{_≡_}
-use mathlib.Core.Bool.{Bool, cond}
-use mathlib.Core.List.{List, map}
-use lib.ListN.{length}
+use mathlib.Core.Bool.{cond}
+use mathlib.Core.List.{List}
 use lib.Dec.{eqb}
 use lib.Seq.{sets}
 use Rattle.site.specs.declared.fact.Fact.{Fact}
 use Rattle.site.specs.Limits.{mostFacts}
-use Rattle.site.specs.Lists.{count}
 use Rattle.follows.specs.Tables.{Follows}
 use Rattle.clean.specs.Types.{itself}
 use Rattle.clean.specs.Marks.{marks, partners, counts}

@@ -1,6 +1,6 @@
 -- The types of a fact. A concept's type at a thing is placed at the pair of that thing and itself, so that things and pairs are one case.
 use Prim.Native.Nat.{ℕ, _-_}
-use mathlib.Core.Bool.{Bool, cond}
+use mathlib.Core.Bool.{cond}
 use mathlib.Core.List.{List, [], _∷_}
 use Rattle.site.specs.declared.fact.Fact.{Fact}
 use Rattle.site.specs.Kinds.{Node, ofConcept}

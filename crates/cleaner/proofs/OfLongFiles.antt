@@ -6,12 +6,12 @@ use mathlib.Core.List.{List}
 use lib.ListN.{length, take}
 use lib.Seq.{length-take-le, take-take}
 use native.Mathlib.Omega.{arith}
-use Rattle.number.specs.Answer.{Answer, over}
+use Rattle.number.specs.Answer.{Answer}
 use Rattle.number.specs.Answer.Answer.{gives, refuses}
 use Rattle.number.proofs.Laws.{Bytes}
 use Rattle.site.specs.Limits.{mostRoles}
 use Rattle.rules.specs.declared.head.Head.{Head}
-use Rattle.bundle.specs.Bundle.{checkBundle, readBundle, factsOf}
+use Rattle.bundle.specs.Bundle.{checkBundle, readBundle}
 use Rattle.bundle.specs.declared.facts.Facts.{Facts}
 use Rattle.bundle.proofs.Longest.{longest, accepted-short, past-longest}
 

@@ -1,30 +1,27 @@
 -- What adding one pair after the other does, and which numbers the code's nodes have.
 use Prim.Native.Nat.{ℕ, suc, _+_, _-_, _*_, _%_, _^_, _<_, _≤_}
 use mathlib.Core.Path.{_≡_, refl, sym, ap, subst, _∙_}
-use mathlib.Core.Bool.{Bool, true, false, cond}
+use mathlib.Core.Bool.{true}
 use mathlib.Core.Logic.{_⊎_, inl, inr}
 use mathlib.Core.List.{List, [], _∷_, _++_, append-nil, append-assoc, List·Memᴰ, List·Memᴰ·head, List·Memᴰ·tail, List·Memᴰ·not-nil, List·Memᴰ·append-cases, Memᴰ·append-left, Memᴰ·append-right}
 use native.Mathlib.Omega.{arith}
 use native.Mathlib.Numerals.{add-one}
-use native.Mathlib.Decide.{ℕ-discrete}
-use lib.Dec.{ltb}
 use lib.Bits.{bitOr}
 use lib.Pow.{shl-exact}
-use borrow.Author.Tests.{ltb-false}
 use borrow.Author.Needs.{needs}
 use Rattle.site.specs.Kinds.{BasicRole, Node, Rule, turned}
 use Rattle.site.specs.Kinds.BasicRole.{forward, inverse}
-use Rattle.site.specs.Kinds.BasicConcept.{named, some}
+use Rattle.site.specs.Kinds.BasicConcept.{some}
 use Rattle.site.specs.Kinds.Node.{concept, role}
 use Rattle.site.specs.Kinds.Rule.{included, disjoint, roleIncluded, roleDisjoint, functional}
-use Rattle.site.specs.Codes.{roleOf, roleCode, conceptOf, conceptCode, nodeCode}
+use Rattle.site.specs.Codes.{roleOf, roleCode, conceptOf, nodeCode}
 use Rattle.site.specs.Lists.{upTo, each}
 use Rattle.site.specs.Told.{ruleTold}
 use Rattle.site.specs.declared.nodes.BasicRole.{BasicRole as RoleCode}
 use Rattle.site.specs.declared.nodes.BasicConcept.{BasicConcept as ConceptCode}
 use Rattle.site.specs.declared.rule.Rule.{Rule as RuleCase}
 use Rattle.site.specs.declared.rule.Rule.the-variants.{Included, Disjoint, RoleIncluded, RoleDisjoint, Functional}
-use Rattle.site.proofs.OfKinds.{role-even, role-odd}
+use Rattle.site.proofs.OfCodes.{role-code, concept-code}
 use Rattle.site.proofs.Lists.{or-cases, or-left, or-right}
 use Rattle.follows.specs.Bits.{bitOf, Has, IsTable, Added, CameAdded}
 use Rattle.follows.specs.Bits.CameAdded.{old-one, new-one}
@@ -35,24 +32,6 @@ use Rattle.follows.specs.Adding.CameFunctional.{at-once as was, of-rule}
 use Rattle.follows.proofs.Words.{bit-or, bit-same, bit-other}
 
 -- the numbers of the nodes
-pub role-code : (q : ℕ) → roleCode (roleOf q) ≡ q
-role-code q = step (ℕ-discrete (q % 2) 0)
-  where
-    step : Dec (q % 2 ≡ 0) → roleCode (roleOf q) ≡ q
-    step (yes e) = rw (role-even q e) (omega arith)
-    step (no d) = rw (role-odd q d) (omega arith)
-
-pub concept-code : (b : ℕ) → conceptCode (conceptOf b) ≡ b
-unfolding conceptOf
-concept-code b = step (ltb b 64) refl
-  where
-    step : (low : Bool) → ltb b 64 ≡ low → conceptCode (cond low (named b) (some (roleOf (b - 64)))) ≡ b
-    step true e = refl
-    step false e =
-        let h = ltb-false b 64 e in
-        let f = role-code (b - 64) in
-        omega arith
-
 pub concept-number : (b m : ℕ) → m ≡ b → m ≡ nodeCode (concept (conceptOf b))
 concept-number b m e = e ∙ sym (concept-code b)
 

@@ -1,12 +1,10 @@
 -- The tables of bits hold what the relations on nodes hold, by the nodes' numbers: what was added is what the rules give, and a closure of
 -- numbers is the closure of their nodes.
-use Prim.Native.Nat.{ℕ, _+_, _*_, _/_, _%_, _<_}
+use Prim.Native.Nat.{ℕ, _+_, _<_}
 use mathlib.Core.Path.{_≡_, refl, sym, ap, subst, subst₂, _∙_}
-use mathlib.Core.Bool.{true, false≢true}
+use mathlib.Core.Bool.{true}
 use mathlib.Core.Logic.{_⊎_, inl, inr}
 use mathlib.Core.List.{List, _++_, List·Memᴰ, List·Memᴰ·head, List·Memᴰ·tail, List·Memᴰ·not-nil, List·Memᴰ·append-cases, Memᴰ·append-left, Memᴰ·append-right}
-use native.Mathlib.Omega.{arith}
-use lib.ListN.{getD, getD-replicate}
 use borrow.Author.Tests.{lt-ltb, ltb-true}
 use Rattle.site.specs.Kinds.{BasicRole, Node, Rule, Site, roleIn, declared, declaredRole}
 use Rattle.site.specs.Kinds.BasicRole.{forward, inverse}
@@ -16,7 +14,7 @@ use Rattle.site.specs.Codes.{nodeOf, nodeCode}
 use Rattle.site.specs.Lists.{upTo, each}
 use Rattle.site.proofs.Lists.{each-of, of-each, below-of-upTo, upTo-of-below, or-cases, or-left}
 use Rattle.rules.specs.Lawful.{Lawful}
-use Rattle.follows.specs.Bits.{bitOf, Has}
+use Rattle.follows.specs.Bits.{Has}
 use Rattle.follows.specs.Closed.Closed.{here, one, on}
 use Rattle.follows.specs.Listed.{Listed}
 use Rattle.follows.specs.Passes.{Within, Reach, Closes}
@@ -25,8 +23,7 @@ use Rattle.follows.specs.Lowering.Shut.{apart, void}
 use Rattle.follows.specs.Steps.{Included, Excluded, OneOf}
 use Rattle.follows.specs.Steps.OneOf.{itself, has, has-inverse}
 use Rattle.follows.specs.Tables.{Pair, Relation, arrowsOf, writtenOf, arrow, mates, nodesOf}
-use Rattle.follows.specs.Adding.{CamePair, AddedAll, inBothOrders, exclusionsOf, ring, rings}
-use Rattle.follows.specs.Adding.CamePair.{at-once, of-pair}
+use Rattle.follows.specs.Adding.{AddedAll, inBothOrders, exclusionsOf, ring, rings}
 use Rattle.follows.specs.Tells.{Blank}
 use Rattle.follows.proofs.Rows.{On}
 use Rattle.follows.proofs.Closing.{Reaches}
@@ -36,32 +33,9 @@ use Rattle.follows.proofs.Arrows.{arrow-given, arrow-of, arrow-included
 use Rattle.follows.proofs.Apart.{Three, of-mates, onward, LeadsOn, Across, Apart, Kept, written-excludes, mates-lead, kept-excluded, excluded-kept}
 use Rattle.follows.proofs.Apart.Across.{straight, crossed}
 use Rattle.follows.proofs.Apart.Kept.{by-written, by-void}
-use Rattle.follows.proofs.Words.{in-row, in-column, bit-there}
 use Rattle.follows.proofs.Numbers.{node-code, code-node, code-listed, listed-declared, declared-listed}
-use Rattle.follows.proofs.Filling.{bit-of-none}
 use Rattle.follows.proofs.Adds.{added-more}
-
--- an empty table has nothing
-blank-none : (t : List ℕ) (u v : ℕ) → Blank t → Has t u v → ⊥
-blank-none t u v e h =
-    let a = in-row t u v h in
-    let b = in-column t u v h in
-    let z : getD t (u * 3 + v / 64) 0 ≡ 0 = ap (λ l. getD l (u * 3 + v / 64) 0) e ∙ getD-replicate 576 (u * 3 + v / 64) 0 0 (omega arith) in
-    false≢true (sym (bit-of-none (v % 64)) ∙ subst (λ w. bitOf w (v % 64) ≡ true) z (bit-there t u v h))
-
--- what is in a table that was empty is one of the pairs
-record FromPair (pairs : List Pair) (u v : ℕ) : Type 0 where
-  pair : Pair
-  within : List·Memᴰ pair pairs
-  is-left : u ≡ nodeCode (pair .left)
-  is-right : v ≡ nodeCode (pair .right)
-
-from-pair : {pairs : List Pair} {old new : List ℕ} → Blank old → AddedAll pairs old new → (u v : ℕ) → Has new u v → FromPair pairs u v
-from-pair {pairs} {old} b p u v h = step (p .came u v h)
-  where
-    step : CamePair pairs old u v → FromPair pairs u v
-    step (at-once k) = absurd (blank-none old u v b k)
-    step (of-pair a m e f) = record { pair = a; within = m; is-left = e; is-right = f }
+use Rattle.follows.proofs.FromBlank.{FromPair, from-pair}
 
 module _ (s : Site) (lawful : Lawful s) where
   abbrev c : ℕ

@@ -7,9 +7,13 @@ pub mod Apart
 pub mod Decided
 pub mod Words
 pub mod Passes
+pub mod WordBits
+pub mod Taking
+pub mod Mirroring
 pub mod Lowers
 pub mod Adds
 pub mod Numbers
 pub mod Filling
+pub mod FromBlank
 pub mod Bridge
 pub mod Telling

@@ -14,7 +14,7 @@ use Rattle.site.specs.Codes.{roleOf, roleCode, conceptOf, nodeOf, nodeCode}
 use Rattle.site.proofs.OfKinds.{role-even, role-odd}
 use Rattle.rules.specs.Lawful.{Lawful}
 use Rattle.follows.specs.Listed.{nodeAt, Listed}
-use Rattle.follows.proofs.Adds.{role-code, concept-code}
+use Rattle.site.proofs.OfCodes.{role-code, concept-code}
 
 -- a number's node has that number
 pub node-code : (x : ℕ) → nodeCode (nodeOf x) ≡ x

@@ -5,7 +5,7 @@ use mathlib.Core.List.{List·Memᴰ}
 use Rattle.site.specs.Kinds.{BasicRole, BasicConcept, Node, Rule, Site, turned, declared}
 use Rattle.site.specs.Kinds.BasicConcept.{some}
 use Rattle.site.specs.Kinds.Node.{concept, role}
-use Rattle.site.specs.Kinds.Rule.{included, disjoint, roleIncluded, roleDisjoint, functional}
+use Rattle.site.specs.Kinds.Rule.{included, disjoint, roleIncluded, roleDisjoint}
 
 -- what kind 0 and kind 2 rules say: X is included in Y
 pub data SaysIncluded : Rule → Node → Node → Type 0 where

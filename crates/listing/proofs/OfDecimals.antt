@@ -1,11 +1,11 @@
 -- Decimal digits: a number's digits are those of its tenth and then its last one. From this come the laws of the usual decimal:
 -- the digits read back as the number, each byte is a digit, none but 0 begins with 0, and a number of 64 bits has 20 at most.
 use Prim.Native.Nat.{ℕ, zero, suc, _+_, _-_, _*_, _/_, _%_, _^_, _≤_, _<_}
-use mathlib.Core.Path.{_≡_, refl, sym, ap, _∙_}
-use mathlib.Core.Bool.{Bool, true, false, cond, _&&_}
+use mathlib.Core.Path.{_≡_, refl, ap}
+use mathlib.Core.Bool.{Bool, true, false, cond}
 use mathlib.Core.List.{List, [], _∷_, _++_}
 use lib.ListN.{length, getD, length-append, List·getD-append}
-use lib.Dec.{ltb, leb}
+use lib.Dec.{ltb}
 use native.Mathlib.Omega.{arith}
 use borrow.Author.Tests.{lt-ltb, le-ltb, le-leb, ltb-true, ltb-false}
 use Rattle.listing.specs.Decimal.{digit, digitsOf, decimalOf, readOn, valueOf, isDigit, digitsOnly}

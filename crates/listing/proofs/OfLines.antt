@@ -1,10 +1,9 @@
 -- A line is its runs of bytes one after the other, from the start: one law for each way out of the line functions.
-use Prim.Native.Nat.{ℕ, _+_, _-_, _≤_, _<_}
-use mathlib.Core.Path.{_≡_, refl, sym, ap, _∙_}
-use mathlib.Core.List.{List, [], _∷_, _++_}
-use lib.ListN.{length, take, drop, getD}
-use lib.Seq.{sets, sets-eq, take-append-seam}
-use lib.Dec.{eqb}
+use Prim.Native.Nat.{ℕ, _+_, _-_, _≤_}
+use mathlib.Core.Path.{_≡_, _∙_}
+use mathlib.Core.List.{List}
+use lib.ListN.{length, drop, getD}
+use lib.Seq.{sets-eq, take-append-seam}
 use native.Mathlib.Nat.{zero-add}
 use native.Mathlib.Omega.{arith}
 use borrow.Author.Tests.{eq-eqb, ne-eqb}
@@ -18,7 +17,7 @@ use Rattle.operations.specs.Promises.{countedTold}
 use Rattle.operations.specs.declared.mark.Counted.{Counted}
 use Rattle.operations.specs.declared.mark.Counted.the-variants.{Counts as CountsAre, Refused as NotCounted}
 use Rattle.listing.specs.Listing.{linesOf, lineAt}
-use Rattle.listing.proofs.OfPutting.{laid-both, named-room, named-laid}
+use Rattle.listing.proofs.OfPutting.{laid-both}
 
 -- a run from the start that fits is a line
 line : (out bytes : List ℕ) (r : ℕ) (out′ : List ℕ) → Laid out 0 bytes r out′ → r ≤ length out → Line out bytes r out′

@@ -1,5 +1,5 @@
 -- Putting bytes into a line: two runs of bytes one after the other are one run, a word goes in byte by byte, a number by its tenth and its last digit.
-use Prim.Native.Nat.{ℕ, zero, suc, _+_, _-_, _*_, _/_, _%_, _^_, _≤_, _<_}
+use Prim.Native.Nat.{ℕ, suc, _+_, _-_, _/_, _%_, _^_, _≤_, _<_}
 use mathlib.Core.Path.{_≡_, refl, sym, ap, _∙_}
 use mathlib.Core.List.{List, [], _∷_, _++_}
 use lib.ListN.{length, getD, drop, set, length-set, length-append}
@@ -10,7 +10,7 @@ use native.Mathlib.Omega.{arith}
 use borrow.Author.Needs.{needs}
 use Rattle.listing.specs.Decimal.{digit, decimalOf}
 use Rattle.listing.specs.Put.{Laid, LaidNumber, LaidNamed, named}
-use Rattle.listing.proofs.OfDecimals.{decimal-one, decimal-more, at-most-19, at-most-20}
+use Rattle.listing.proofs.OfDecimals.{decimal-one, decimal-more, at-most-19}
 
 sets-append : (out : List ℕ) (at : ℕ) (xs ys : List ℕ) → sets out at (xs ++ ys) ≡ sets (sets out at xs) (at + length xs) ys
 sets-append out at [] ys = ap (λ (k : ℕ). sets out k ys) (sym (add-zero at))

@@ -1,5 +1,5 @@
 -- What an accepted answer says of the answers that it is made of.
-use mathlib.Core.Path.{_≡_, refl, sym, ap, _∙_}
+use mathlib.Core.Path.{_≡_, refl}
 use mathlib.Core.Bool.{Bool, true, false, cond}
 use native.Mathlib.Omega.{arith}
 use Prim.Native.Nat.{ℕ}

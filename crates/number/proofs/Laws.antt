@@ -18,6 +18,7 @@ use Rattle.number.specs.declared.read.Num.{Num}
 use Rattle.number.specs.declared.read.Num.the-variants.{Value, Refused}
 use Rattle.number.specs.declared.write.Wrote.{Wrote}
 use Rattle.number.specs.declared.write.Wrote.the-variants.{Next, Refused as Stopped}
+use Rattle.number.proofs.One.{one, undone, Same}
 use Rattle.number.proofs.Writing.{picked, by-form, sized, bytes-1, bytes-2, bytes-3}
 
 -- every element is a byte
@@ -293,10 +294,6 @@ module _ (s t : List ℕ) (at most side : ℕ) where
   pub from-place-on : drop at s ≡ drop at t → numberAt s at most side ≡ numberAt t at most side
   from-place-on e = from-three-bytes (ap (take 3) e)
 
--- what can be undone tells its arguments apart
-undone : {A B : Type 0} (f : A → B) (back : B → A) → ((a : A) → back (f a) ≡ a) → (a a′ : A) → f a ≡ f a′ → a ≡ a′
-undone f back is a a′ e = sym (is a) ∙ ap back e ∙ is a′
-
 read-back : Answer (Read ℕ) → Num
 read-back (gives r) = Value (r .value) (r .next)
 read-back (refuses r) = Refused r
@@ -315,13 +312,9 @@ told-wrote-apart = undone toldWrote wrote-back (elim [ Next next ↦ refl | Stop
 
 -- reading and writing leave one answer only
 pub one-reading : (r r′ : Num) (s : List ℕ) (at most side : ℕ) → told r ≡ numberAt s at most side → told r′ ≡ numberAt s at most side → r ≡ r′
-one-reading r r′ s at most side e e′ = told-apart r r′ (e ∙ sym e′)
-
-pub record SameAnswer (r r′ : Wrote) (out out′ : List ℕ) : Type 0 where
-  pub answer : r ≡ r′
-  pub memory : out ≡ out′
+one-reading r r′ s at most side e e′ = told-apart r r′ (one e e′)
 
 pub one-answer : (out : List ℕ) (at value most : ℕ) (r r₂ : Wrote) (out′ out₂′ : List ℕ)
-    → Writes out at value most r out′ → Writes out at value most r₂ out₂′ → SameAnswer r r₂ out′ out₂′
+    → Writes out at value most r out′ → Writes out at value most r₂ out₂′ → Same r r₂ out′ out₂′
 one-answer out at value most r r₂ out′ out₂′ w w₂ =
-    record { answer = told-wrote-apart r r₂ (w .answer ∙ sym (w₂ .answer)); memory = w .memory ∙ sym (w₂ .memory) }
+    record { answer = told-wrote-apart r r₂ (one (w .answer) (w₂ .answer)); memory = one (w .memory) (w₂ .memory) }

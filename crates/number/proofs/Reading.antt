@@ -1,18 +1,16 @@
 -- What the code's tests on the bytes say of `numberAt`: one law for each way out of `read_number`.
-use Prim.Native.Nat.{ℕ, suc, _+_, _-_, _*_, _≤_, _<_}
-use mathlib.Core.Path.{_≡_, refl, sym, ap, _∙_}
-use mathlib.Core.List.{List, [], _∷_}
-use mathlib.Core.Bool.{Bool, cond}
+use Prim.Native.Nat.{ℕ, _+_, _-_, _*_, _≤_, _<_}
+use mathlib.Core.Path.{_≡_}
+use mathlib.Core.List.{List, _∷_}
 use lib.ListN.{length, getD, drop, drop-of-length-le}
 use lib.Seq.{drop-cons}
 use native.Mathlib.Numerals.{add-one}
 use native.Mathlib.Omega.{arith}
 use borrow.Author.Tests.{lt-ltb, le-ltb, le-leb, lt-leb, eq-eqb, ne-eqb}
 use borrow.Author.Needs.{needs}
-use Rattle.number.specs.Answer.{Answer, Read, refusal}
-use Rattle.number.specs.Answer.Answer.{gives, refuses}
-use Rattle.number.specs.Number.{Form, ending, third, second, formOf, judged, judgeAt, numberAt}
-use Rattle.number.specs.Number.Form.{whole, fault}
+use Rattle.number.specs.Answer.{refusal}
+use Rattle.number.specs.Answer.Answer.{gives}
+use Rattle.number.specs.Number.{ending, third, second, formOf, judged, judgeAt, numberAt}
 use Rattle.number.specs.Told.{told, refusalIn}
 use Rattle.number.specs.declared.read.Num.{Num}
 use Rattle.number.specs.declared.read.Num.the-variants.{Value, Refused}

@@ -1,19 +1,18 @@
 -- What the code's tests on the value say of `bytesOf` and `plan`: one law for each way out of the writing functions.
-use Prim.Native.Nat.{ℕ, suc, _+_, _-_, _*_, _/_, _%_, _≤_, _<_}
-use mathlib.Core.Path.{_≡_, refl, sym, ap, _∙_}
+use Prim.Native.Nat.{ℕ, suc, _+_, _-_, _/_, _%_, _≤_, _<_}
+use mathlib.Core.Path.{_≡_, refl}
 use mathlib.Core.List.{List, [], _∷_}
-use mathlib.Core.Bool.{Bool, true, false, cond, _&&_}
+use mathlib.Core.Bool.{Bool, true, false, cond}
 use lib.ListN.{length, set, length-set}
-use lib.Seq.{sets}
-use lib.Dec.{leb, ltb}
+use lib.Dec.{ltb}
 use native.Mathlib.Numerals.{add-one}
 use native.Mathlib.Omega.{arith}
 use borrow.Author.Tests.{lt-ltb, le-ltb, le-leb, lt-leb, ltb-true, ltb-false}
 use borrow.Author.Needs.{needs}
-use Rattle.number.specs.Answer.{Answer, Read, refusal, over, laid}
+use Rattle.number.specs.Answer.{refusal}
 use Rattle.number.specs.Answer.Answer.{gives, refuses}
 use Rattle.number.specs.Number.{bytesOf, plan, threeBytes}
-use Rattle.number.specs.Told.{toldWrote, Writes, Stores, Stored}
+use Rattle.number.specs.Told.{Writes, Stores, Stored}
 use Rattle.number.specs.declared.write.Wrote.{Wrote}
 use Rattle.number.specs.declared.write.Wrote.the-variants.{Next, Refused}
 

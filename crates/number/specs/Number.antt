@@ -1,6 +1,6 @@
 -- A number in bytes: its forms, what stands at a place, and what is written for a value.
 use Prim.Native.Nat.{ℕ, _+_, _-_, _*_, _/_, _%_}
-use mathlib.Core.Bool.{Bool, cond, _&&_}
+use mathlib.Core.Bool.{cond, _&&_}
 use mathlib.Core.List.{List, [], _∷_}
 use lib.ListN.{drop, length}
 use lib.Dec.{ltb, leb, eqb}

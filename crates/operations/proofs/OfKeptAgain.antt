@@ -1,8 +1,7 @@
 -- The kept bundle is accepted, and reads as the kept facts.
 use Prim.Native.Nat.{ℕ}
-use mathlib.Core.Path.{_≡_, refl, sym, subst, _∙_}
+use mathlib.Core.Path.{_≡_}
 use mathlib.Core.List.{List}
-use Rattle.number.specs.Answer.{Answer}
 use Rattle.number.specs.Answer.Answer.{gives}
 use Rattle.rules.specs.declared.head.Head.{Head}
 use Rattle.rules.specs.RuleFile.{checkRules, siteOf}

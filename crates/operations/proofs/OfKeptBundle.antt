@@ -1,7 +1,6 @@
 -- The kept facts' bundle: its length from the measure, its bytes from the count and the stored facts.
-use Prim.Native.Nat.{ℕ, _+_, _*_, _^_, _≤_, _<_}
-use mathlib.Core.Path.{_≡_, refl, sym, ap, ap₂, subst, _∙_}
-use mathlib.Core.Bool.{Bool, true, false, cond}
+use Prim.Native.Nat.{ℕ, _+_, _*_, _≤_, _<_}
+use mathlib.Core.Path.{_≡_, sym, ap, ap₂, _∙_}
 use mathlib.Core.List.{List, [], _∷_, _++_}
 use lib.ListN.{length, length-append}
 use lib.Seq.{sets, length-sets}
@@ -10,24 +9,23 @@ use mir.Syntax.{w64}
 use native.Mathlib.Omega.{arith}
 use borrow.Author.Tests.{le-leb, lt-leb}
 use borrow.Author.Needs.{needs}
-use Rattle.number.specs.Answer.{Answer, refusal}
+use Rattle.number.specs.Answer.{refusal}
 use Rattle.number.specs.Answer.Answer.{gives, refuses}
-use Rattle.number.specs.Number.{bytesOf, threeBytes}
+use Rattle.number.specs.Number.{bytesOf}
 use Rattle.number.specs.Told.{Stores, Stored}
 use Rattle.number.proofs.Laws.{at-most-three}
 use Rattle.site.specs.declared.fact.Fact.{Fact}
 use Rattle.site.specs.Kinds.{Site}
 use Rattle.site.specs.Limits.{mostFacts}
-use Rattle.site.specs.Lists.{count, keep, each}
+use Rattle.site.specs.Lists.{count, each}
 use Rattle.site.proofs.Lists.{length-keep, count-within}
 use Rattle.rules.specs.declared.head.Head.{Head}
 use Rattle.rules.specs.RuleFile.{siteOf}
 use Rattle.bundle.specs.Bundle.{factsOf, factBytes, bundleOf}
 use Rattle.bundle.specs.Records.{roomFor}
-use Rattle.bundle.specs.declared.writing.BundleWrote.{BundleWrote}
 use Rattle.bundle.specs.declared.writing.BundleWrote.the-variants.{Written, Refused as NotWritten}
 use Rattle.bundle.specs.declared.facts.Facts.{Facts}
-use Rattle.bundle.proofs.Storing.{sets-append}
+use Rattle.bundle.proofs.FactBytes.{sets-append}
 use Rattle.follows.specs.Tables.{Follows, followsOf}
 use Rattle.follows.specs.Tells.{Tells}
 use Rattle.clean.specs.Types.{itself}
@@ -39,7 +37,7 @@ use Rattle.clean.specs.declared.keep.Measure.{Measure}
 use Rattle.clean.proofs.OfAgreement.{kept-same}
 use Rattle.clean.proofs.OfKeeping.{fact-short}
 use Rattle.operations.specs.Promises.{Accepted, WritesKept, StoresBundle}
-use Rattle.operations.proofs.OfOperations.{lawful, as-many, few, given-is, spoken, agree}
+use Rattle.operations.proofs.OfOperations.{as-many, few, given-is, spoken, agree}
 
 nine-each : (l : List Fact) → length (each factBytes l) ≤ 9 * length l
 unfolding each

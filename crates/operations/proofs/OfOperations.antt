@@ -1,22 +1,18 @@
 -- The operations: under accepted rules and an accepted bundle the tables give what the definitions say; any other input gives its refusal.
-use Prim.Native.Nat.{ℕ, suc, _+_, _-_, _*_, _/_, _^_, _≤_, _<_}
-use mathlib.Core.Path.{_≡_, refl, sym, ap, ap₂, subst, _∙_}
-use mathlib.Core.Bool.{Bool, true, false, cond, _&&_, not, and-false}
-use mathlib.Core.List.{List, [], _∷_, List·Memᴰ, List·Memᴰ·head, List·Memᴰ·tail}
-use lib.ListN.{length, getD, length-append}
+use Prim.Native.Nat.{ℕ, _-_, _≤_, _<_}
+use mathlib.Core.Path.{_≡_, refl, sym, ap, subst, _∙_}
+use mathlib.Core.Bool.{true, and-false}
+use mathlib.Core.List.{List, [], List·Memᴰ, List·Memᴰ·head, List·Memᴰ·tail}
+use lib.ListN.{length, getD}
 use lib.Seq.{sets}
-use lib.Dec.{leb, ltb}
-use mir.Val.{Fits}
-use mir.Syntax.{w64}
 use native.Mathlib.Omega.{arith}
 use borrow.Author.Tests.{lt-ltb, le-ltb, le-leb, lt-leb, ltb-true}
 use borrow.Author.Needs.{needs}
-use Rattle.number.specs.Answer.{Answer, refusal, _then_, over, laid}
+use Rattle.number.specs.Answer.{Answer, refusal, _then_, over}
 use Rattle.number.specs.Answer.Answer.{gives, refuses}
-use Rattle.number.specs.Number.{bytesOf}
 use Rattle.number.specs.declared.refusal.Refusal.{Refusal}
 use Rattle.site.specs.declared.fact.Fact.{Fact}
-use Rattle.site.specs.Kinds.{BasicRole, Node, Site, declared, declaredRole, roleIn}
+use Rattle.site.specs.Kinds.{BasicRole, Site, declaredRole}
 use Rattle.site.specs.Kinds.BasicRole.{forward, inverse}
 use Rattle.site.specs.Codes.{roleCode, predicateDeclared}
 use Rattle.site.specs.Limits.{mostFacts}
@@ -28,23 +24,22 @@ use Rattle.rules.specs.declared.check.RulesRead.the-variants.{Accepted as Rules
 use Rattle.rules.specs.RuleFile.{checkRules, siteOf}
 use Rattle.rules.specs.Told.{rulesTold}
 use Rattle.rules.proofs.AcceptedFile.{accepted-lawful as lawful-rules}
-use Rattle.bundle.specs.Bundle.{Last, checkBundle, readBundle, factsOf, predicateKnown}
-use Rattle.bundle.specs.Lawful.{LawfulFrom, LawfulFacts}
+use Rattle.bundle.specs.Bundle.{Last, checkBundle, readBundle, factsOf}
+use Rattle.bundle.specs.Lawful.{LawfulFrom}
 use Rattle.bundle.specs.Lawful.LawfulFrom.{done, next}
 use Rattle.bundle.specs.Told.{bundleTold}
 use Rattle.bundle.specs.declared.check.BundleRead.{BundleRead}
 use Rattle.bundle.specs.declared.check.BundleRead.the-variants.{Accepted as BundleAccepted, Refused as BundleRefused}
 use Rattle.bundle.specs.declared.facts.Facts.{Facts}
 use Rattle.bundle.proofs.Accepted.{accepted-lawful as lawful-facts, accepted-count}
-use Rattle.follows.specs.Bits.{bitOf}
 use Rattle.follows.specs.Tables.{Follows, followsOf}
 use Rattle.follows.specs.Tells.{Tells}
 use Rattle.follows.proofs.Telling.{excluded-coded, functional-coded}
 use Rattle.clean.specs.Types.{itself}
-use Rattle.clean.specs.Marks.{mark, partner, marks, partners, counts, kept}
+use Rattle.clean.specs.Marks.{mark, partner, marks, partners, counts}
 use Rattle.clean.specs.Coded.{hasRole, bitsFollow}
 use Rattle.clean.specs.Tally.{Marks}
-use Rattle.clean.specs.Operations.{Marked, given, roomForMarks, marking, counting, asking, having, joining, keeping}
+use Rattle.clean.specs.Operations.{given, roomForMarks, marking, counting, asking, having, joining, keeping}
 use Rattle.operations.specs.Promises.{opening, Accepted, openedTold, openedRefusal, countedTold, askedTold, repliedTold, MarksAll, WritesKept}
 use Rattle.clean.specs.declared.answers.Counts.{Counts}
 use Rattle.clean.specs.declared.answers.Judged.{Judged}
@@ -53,12 +48,9 @@ use Rattle.operations.specs.declared.open.Opened.{Opened}
 use Rattle.operations.specs.declared.open.Opened.the-variants.{Accepted as Ready, Refused as NotReady}
 use Rattle.operations.specs.declared.mark.Counted.{Counted}
 use Rattle.operations.specs.declared.mark.Counted.the-variants.{Counts as CountsAre, Refused as NotCounted}
-use Rattle.operations.specs.declared.mark.Asked.{Asked}
 use Rattle.operations.specs.declared.mark.Asked.the-variants.{Judged as JudgedSo, Refused as NotJudged}
-use Rattle.operations.specs.declared.question.Replied.{Replied}
-use Rattle.operations.specs.declared.question.Replied.the-variants.{Yes, No, Refused as NotReplied}
-use Rattle.bundle.specs.declared.writing.BundleWrote.{BundleWrote}
-use Rattle.bundle.specs.declared.writing.BundleWrote.the-variants.{Written, Refused as NotWritten}
+use Rattle.operations.specs.declared.question.Replied.the-variants.{Refused as NotReplied}
+use Rattle.bundle.specs.declared.writing.BundleWrote.the-variants.{Refused as NotWritten}
 use Rattle.clean.proofs.OfAgreement.{Agree, AllSpoken, mark-same, partner-same, marks-same, partners-same, counts-same}
 
 -- reading both

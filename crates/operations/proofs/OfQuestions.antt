@@ -1,37 +1,33 @@
 -- The two questions: the lowest supporting fact by the tables is the definition's, and each fault of the arguments gives its refusal in order.
-use Prim.Native.Nat.{ℕ, _+_, _-_, _*_, _/_, _≤_, _<_}
-use mathlib.Core.Path.{_≡_, refl, sym, ap, ap₂, subst, _∙_}
-use mathlib.Core.Bool.{Bool, true, false, cond, _&&_, not}
+use Prim.Native.Nat.{ℕ, _+_, _-_, _/_, _≤_, _<_}
+use mathlib.Core.Path.{_≡_, sym, ap, ap₂, _∙_}
+use mathlib.Core.Bool.{Bool, true, false, _&&_, not}
 use mathlib.Core.List.{List, [], List·Memᴰ}
 use lib.ListN.{length}
-use lib.Dec.{leb, ltb, eqb}
 use native.Mathlib.Omega.{arith}
 use borrow.Author.Tests.{lt-ltb, le-ltb, le-leb, lt-leb, not-true, not-false}
 use borrow.Author.Needs.{needs}
-use Rattle.number.specs.Answer.{Answer, refusal, _then_}
-use Rattle.number.specs.Answer.Answer.{gives, refuses}
+use Rattle.number.specs.Answer.{refusal}
 use Rattle.site.specs.declared.fact.Fact.{Fact}
 use Rattle.site.specs.declared.nodes.Declared.{Declared}
-use Rattle.site.specs.Kinds.{Node, Site, declared}
+use Rattle.site.specs.Kinds.{Site, declared}
 use Rattle.site.specs.Kinds.Node.{concept, role}
 use Rattle.site.specs.Codes.{conceptOf, roleOf, conceptDeclared, roleDeclared}
 use Rattle.site.specs.Limits.{mostThing}
-use Rattle.site.specs.Lists.{any, first}
+use Rattle.site.specs.Lists.{first}
 use Rattle.site.proofs.OfKinds.{concept-declared, role-declared}
 use Rattle.rules.specs.declared.head.Head.{Head}
 use Rattle.rules.specs.RuleFile.{siteOf}
 use Rattle.bundle.specs.Bundle.{factsOf}
 use Rattle.bundle.specs.declared.facts.Facts.{Facts}
-use Rattle.follows.specs.Bits.{has}
-use Rattle.follows.specs.Tables.{Follows, followsOf}
+use Rattle.follows.specs.Tables.{followsOf}
 use Rattle.follows.specs.Tells.{Tells}
-use Rattle.follows.proofs.Adds.{concept-code, role-code}
+use Rattle.site.proofs.OfCodes.{concept-code, role-code}
 use Rattle.follows.proofs.Telling.{included-coded}
 use Rattle.clean.specs.Types.{Typ as SaidTyp, typ, typesOf, itself}
 use Rattle.clean.specs.Marks.{samePlace, marked, supports, support}
 use Rattle.clean.specs.Coded.{code, codedTypes, bitsFollow, relatedAt, supportsCoded, supportIn}
-use Rattle.clean.specs.Operations.{Reply, replyOf, having, joining}
-use Rattle.clean.specs.Operations.Reply.{yes-by, none}
+use Rattle.clean.specs.Operations.{replyOf, having, joining}
 use Rattle.clean.specs.declared.types.Typ.{Typ}
 use Rattle.clean.proofs.OfAgreement.{any-same, first-same, type-declared, marked-same}
 use Rattle.clean.proofs.OfTests.{any-map}

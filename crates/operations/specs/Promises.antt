@@ -20,7 +20,7 @@ use Rattle.site.specs.Kinds.{declared}
 use Rattle.follows.specs.Tables.{Follows, followsOf}
 use Rattle.clean.specs.Types.{Typ as SaidTyp}
 use Rattle.clean.specs.Coded.{code}
-use Rattle.clean.specs.Operations.{Marked, Reply, replyOf, marking, counting, asking, having, joining, keeping}
+use Rattle.clean.specs.Operations.{Reply, replyOf, marking, keeping}
 use Rattle.clean.specs.Operations.Reply.{yes-by, none}
 use Rattle.clean.specs.declared.answers.Counts.{Counts}
 use Rattle.clean.specs.declared.answers.Judged.{Judged}

@@ -26,8 +26,8 @@ use Rattle.bundle.specs.declared.facts.Facts.{Facts}
 use Rattle.bundle.proofs.Accepted.{accepted-lawful}
 use Rattle.bundle.proofs.RoundTrips.{writtenHead, written-accepted, written-facts, accepted-again}
 use Rattle.bundle.proofs.Rewriting.{lawful-sound}
-use Rattle.bundle.proofs.Pushing.{Sound, same-fault}
-use Rattle.bundle.proofs.Pushing.Sound.{no-more, sound}
+use Rattle.bundle.proofs.Faults.{Sound, same-fault}
+use Rattle.bundle.proofs.Faults.Sound.{no-more, sound}
 use Rattle.records.specs.Rows.{recordOf, factOf, handOut, handRecords, writeRow}
 use Rattle.records.specs.declared.record.Record.{Record}
 use Rattle.records.proofs.Filling.{handed-out}

@@ -1,10 +1,10 @@
 -- Every contract leaves one answer: what a start, a yield and a step are told to be determines them, and the handing out and the writing say their answers and the lent memory outright.
 use Prim.Native.Nat.{ℕ}
-use mathlib.Core.Path.{_≡_, refl, sym, ap, _∙_}
+use mathlib.Core.Path.{_≡_, refl, ap}
 use mathlib.Core.List.{List}
-use denote.Ref.{now}
 use Rattle.number.specs.Answer.{Answer}
 use Rattle.number.specs.Answer.Answer.{gives, refuses}
+use Rattle.number.proofs.One.{one, undone, Same}
 use Rattle.records.specs.Reading.{Found, Stepped, readerStart, readerStep}
 use Rattle.records.specs.Reading.Found.{fact, done}
 use Rattle.records.specs.Told.{startTold, yieldTold, stepTold, Steps, Hands}
@@ -18,10 +18,6 @@ use Rattle.records.specs.declared.step.Step.{Step}
 use Rattle.records.specs.declared.reader.Reader.{Reader}
 use Rattle.records.specs.declared.hand.Handed.{Handed}
 use Rattle.records.specs.declared.write.WroteRow.{WroteRow}
-
--- what can be undone tells its arguments apart
-undone : {A B : Type 0} (f : A → B) (back : B → A) → ((a : A) → back (f a) ≡ a) → (a a′ : A) → f a ≡ f a′ → a ≡ a′
-undone f back is a a′ e = sym (is a) ∙ ap back e ∙ is a′
 
 start-back : Answer ℕ → Started
 start-back (gives at) = At at
@@ -45,12 +41,12 @@ yield-told-apart = undone yieldTold yield-back (elim [ Fact f ↦ refl | Refused
 
 -- a start, and a step of a place
 pub one-start : (rules bundle : List ℕ) (r r′ : Started) → startTold r ≡ readerStart rules bundle → startTold r′ ≡ readerStart rules bundle → r ≡ r′
-one-start rules bundle r r′ e e′ = start-told-apart r r′ (e ∙ sym e′)
+one-start rules bundle r r′ e e′ = start-told-apart r r′ (one e e′)
 
 pub one-step : (bundle : List ℕ) (at : ℕ) (r r′ : Step) → stepTold r ≡ readerStep bundle at → stepTold r′ ≡ readerStep bundle at → r ≡ r′
 one-step bundle at r r′ e e′ =
-    let yields : r .yields ≡ r′ .yields = yield-told-apart (r .yields) (r′ .yields) (ap (λ (s : Stepped). s .yields) (e ∙ sym e′)) in
-    let next : r .next ≡ r′ .next = ap (λ (s : Stepped). s .next) (e ∙ sym e′) in
+    let yields : r .yields ≡ r′ .yields = yield-told-apart (r .yields) (r′ .yields) (ap (λ (s : Stepped). s .yields) (one e e′)) in
+    let next : r .next ≡ r′ .next = ap (λ (s : Stepped). s .next) (one e e′) in
     λ i. record { yields = yields i; next = next i }
 
 -- a step of a reader: the yield, and the reader afterwards
@@ -60,22 +56,14 @@ pub record SameStep (y y′ : Yield) (after after′ : Reader) : Type 0 where
 
 pub one-reader-step : (before : Reader) (y y′ : Yield) (after after′ : Reader) → Steps before y after → Steps before y′ after′ → SameStep y y′ after after′
 one-reader-step before y y′ after after′ s t =
-    let src : after .src ≡ after′ .src = s .bundle ∙ sym (t .bundle) in
-    let at : after .at ≡ after′ .at = s .next ∙ sym (t .next) in
-    record { yields = yield-told-apart y y′ (s .yields ∙ sym (t .yields)); reader = λ i. record { src = src i; at = at i } }
+    let src : after .src ≡ after′ .src = one (s .bundle) (t .bundle) in
+    let at : after .at ≡ after′ .at = one (s .next) (t .next) in
+    record { yields = yield-told-apart y y′ (one (s .yields) (t .yields)); reader = λ i. record { src = src i; at = at i } }
 
 -- handing out: the answer, and the row afterwards
-pub record SameHanding (r r′ : Handed) (row row′ : List Record) : Type 0 where
-  pub answer : r ≡ r′
-  pub memory : row ≡ row′
-
-pub one-handing : (rules bundle : List ℕ) (row : List Record) (r r′ : Handed) (row₁ row₂ : List Record) → Hands rules bundle row r row₁ → Hands rules bundle row r′ row₂ → SameHanding r r′ row₁ row₂
-one-handing rules bundle row r r′ row₁ row₂ h k = record { answer = h .answer ∙ sym (k .answer); memory = h .memory ∙ sym (k .memory) }
+pub one-handing : (rules bundle : List ℕ) (row : List Record) (r r′ : Handed) (row₁ row₂ : List Record) → Hands rules bundle row r row₁ → Hands rules bundle row r′ row₂ → Same r r′ row₁ row₂
+one-handing rules bundle row r r′ row₁ row₂ h k = record { answer = one (h .answer) (k .answer); memory = one (h .memory) (k .memory) }
 
 -- writing: the answer, and the output afterwards
-pub record SameWriting (r r′ : WroteRow) (out out′ : List ℕ) : Type 0 where
-  pub answer : r ≡ r′
-  pub memory : out ≡ out′
-
-pub one-writing : (rules : List ℕ) (row : List Record) (out : List ℕ) (r r′ : WroteRow) (out₁ out₂ : List ℕ) → WritesRow rules row out r out₁ → WritesRow rules row out r′ out₂ → SameWriting r r′ out₁ out₂
-one-writing rules row out r r′ out₁ out₂ h k = record { answer = h .answer ∙ sym (k .answer); memory = h .memory ∙ sym (k .memory) }
+pub one-writing : (rules : List ℕ) (row : List Record) (out : List ℕ) (r r′ : WroteRow) (out₁ out₂ : List ℕ) → WritesRow rules row out r out₁ → WritesRow rules row out r′ out₂ → Same r r′ out₁ out₂
+one-writing rules row out r r′ out₁ out₂ h k = record { answer = one (h .answer) (k .answer); memory = one (h .memory) (k .memory) }

@@ -19,7 +19,8 @@ use Rattle.bundle.specs.Pushed.{startOf, judged, placed, storedBy, stateAfter, 
 use Rattle.bundle.specs.declared.writing.Writing.{Writing}
 use Rattle.bundle.specs.declared.writing.BundleWrote.{BundleWrote}
 use Rattle.bundle.specs.declared.writing.BundleWrote.the-variants.{Written, Refused as NotWritten}
-use Rattle.bundle.proofs.Pushing.{pass-keeps, start-storing, two-passes-of-records}
+use Rattle.bundle.proofs.Pushing.{pass-keeps}
+use Rattle.bundle.proofs.TwoPasses.{start-storing, two-passes-of-records}
 use Rattle.records.specs.Rows.{factOf, writeRow}
 use Rattle.records.specs.Written.{openedBy, opened, PushesRow, TurnsOver, wroteRow, ended, WritesRow}
 use Rattle.records.specs.declared.record.Record.{Record}

@@ -1,15 +1,15 @@
 -- What an accepted rule is: its codes are declared. The reading is taken apart from its last number to its first.
 use Prim.Native.Nat.{ℕ, zero, suc, _≤_, _<_}
-use mathlib.Core.Path.{_≡_, refl, sym, ap, subst, _∙_}
+use mathlib.Core.Path.{_≡_, refl, sym, subst, _∙_}
 use mathlib.Core.Bool.{Bool, true, false, cond, _&&_}
 use mathlib.Core.List.{List}
 use lib.Dec.{leb, eqb}
 use native.Mathlib.Omega.{arith}
-use borrow.Author.Tests.{lt-leb, leb-true, eqb-true, eqb-false}
+use borrow.Author.Tests.{leb-true, eqb-true, eqb-false}
 use Rattle.number.specs.Answer.{Answer, Read, refusal, _then_}
 use Rattle.number.specs.Answer.Answer.{gives, refuses}
 use Rattle.number.specs.Number.{numberAt}
-use Rattle.number.proofs.Answers.{Went, went, Passed, passed, given-once}
+use Rattle.number.proofs.Answers.{went, passed, given-once}
 use Rattle.site.specs.Codes.{conceptDeclared, roleDeclared, conceptOf, roleOf, ruleOf}
 use Rattle.site.specs.Kinds.{Rule, Site, declared, declaredRole}
 use Rattle.site.specs.Kinds.Node.{concept}

@@ -1,23 +1,20 @@
 -- An accepted rule file's rules are lawful: the walk that read them says so of each, and the last walk of the functional ones.
-use Prim.Native.Nat.{ℕ, zero, suc, _≤_, _<_}
-use mathlib.Core.Path.{_≡_, refl, sym, ap, subst, _∙_}
-use mathlib.Core.Bool.{Bool, true, false, cond, true≢false}
-use mathlib.Core.List.{List, [], _∷_, List·Memᴰ, List·Memᴰ·not-nil, List·Memᴰ·cases-cons}
+use Prim.Native.Nat.{ℕ, zero, suc}
+use mathlib.Core.Path.{_≡_, refl, sym, subst, _∙_}
+use mathlib.Core.Bool.{true, false, cond, true≢false}
+use mathlib.Core.List.{List, _∷_, List·Memᴰ, List·Memᴰ·not-nil, List·Memᴰ·cases-cons}
 use mathlib.Core.Logic.{⊎-elim}
 use lib.ListN.{length}
-use lib.Dec.{eqb, ltb}
+use lib.Dec.{ltb}
 use borrow.Author.Tests.{eq-eqb}
-use Rattle.number.specs.Answer.{Answer, Read, refusal, _then_, over}
+use Rattle.number.specs.Answer.{Answer, Read, refusal, _then_}
 use Rattle.number.specs.Answer.Answer.{gives, refuses}
-use Rattle.number.specs.declared.refusal.Refusal.{Refusal}
-use Rattle.number.proofs.Answers.{Went, went, Failed, not-stopped, given-once}
-use Rattle.site.specs.Kinds.{BasicRole, Rule, Site, roleIn}
-use Rattle.site.specs.Kinds.Rule.{included, disjoint, roleIncluded, roleDisjoint, functional}
+use Rattle.number.proofs.Answers.{went, not-stopped, given-once}
+use Rattle.site.specs.Kinds.{Rule, Site, roleIn}
 use Rattle.site.specs.Items.{endAt, onward}
-use Rattle.site.specs.Lists.{any}
 use Rattle.site.proofs.Lists.{any-of}
 use Rattle.rules.specs.Lawful.{Lawful, ruleDeclared}
-use Rattle.rules.specs.RuleFile.{headOf, ruleAt, rulesFrom, rulesIn, onRight, broken, unbroken, afterRules, checkRules, siteOf, readRules}
+use Rattle.rules.specs.RuleFile.{headOf, ruleAt, rulesFrom, rulesIn, onRight, broken, unbroken, afterRules, checkRules, siteOf}
 use Rattle.rules.specs.declared.head.Head.{Head}
 use Rattle.rules.proofs.Accepted.{rule-is-declared, head-within}
 

@@ -1,20 +1,16 @@
 -- Each answer of the code says one thing only: what an answer is told to be determines it, so that every contract leaves one answer.
 -- A rule is told with its codes as basic concepts and basic roles; these have one code each.
-use Prim.Native.Nat.{ℕ, _-_, _/_, _%_}
-use mathlib.Core.Path.{_≡_, refl, sym, ap, ap₂, _∙_}
-use mathlib.Core.Bool.{Bool, true, false, cond}
+use Prim.Native.Nat.{ℕ, _-_}
+use mathlib.Core.Path.{_≡_, refl, ap, ap₂}
 use mathlib.Core.List.{List}
-use lib.Dec.{eqb, ltb}
-use native.Mathlib.Omega.{arith}
-use borrow.Author.Tests.{eqb-true, eqb-false, ltb-false}
 use Rattle.number.specs.Answer.{Answer, Read}
 use Rattle.number.specs.Answer.Answer.{gives, refuses}
-use Rattle.site.specs.Codes.{roleOf, roleCode, conceptOf, conceptCode}
+use Rattle.number.proofs.One.{one, undone}
+use Rattle.site.specs.Codes.{roleCode, conceptCode}
 use Rattle.site.specs.Kinds.{Rule as SaidRule}
-use Rattle.site.specs.Kinds.BasicRole.{forward, inverse}
-use Rattle.site.specs.Kinds.BasicConcept.{named, some}
 use Rattle.site.specs.Kinds.Rule.{included, disjoint, roleIncluded, roleDisjoint, functional}
 use Rattle.site.specs.Told.{ruleTold}
+use Rattle.site.proofs.OfCodes.{role-code, concept-code}
 use Rattle.site.specs.declared.rule.Rule.{Rule}
 use Rattle.site.specs.declared.rule.Rule.the-variants.{Included, Disjoint, RoleIncluded, RoleDisjoint, Functional}
 use Rattle.rules.specs.RuleFile.{headOf, ruleAt, checkRules}
@@ -26,27 +22,6 @@ use Rattle.rules.specs.declared.read.RuleRead.{RuleRead}
 use Rattle.rules.specs.declared.read.RuleRead.the-variants.{Read as RuleIs, Refused as RuleRefused}
 use Rattle.rules.specs.declared.check.RulesRead.{RulesRead}
 use Rattle.rules.specs.declared.check.RulesRead.the-variants.{Accepted, Refused}
-
--- a basic role and a basic concept have the code that they were made of
-pub role-code : (q : ℕ) → roleCode (roleOf q) ≡ q
-unfolding roleOf
-role-code q = by-test (eqb (q % 2) 0) refl
-  where
-    by-test : (t : Bool) → eqb (q % 2) 0 ≡ t → roleCode (cond t (forward (q / 2)) (inverse (q / 2))) ≡ q
-    by-test true e = omega (arith, eqb-true (q % 2) 0 e)
-    by-test false e = let odd : q % 2 ≡ 0 → ⊥ = eqb-false (q % 2) 0 e in omega arith
-
-pub concept-code : (b : ℕ) → conceptCode (conceptOf b) ≡ b
-unfolding conceptOf
-concept-code b = by-test (ltb b 64) refl
-  where
-    by-test : (t : Bool) → ltb b 64 ≡ t → conceptCode (cond t (named b) (some (roleOf (b - 64)))) ≡ b
-    by-test true e = refl
-    by-test false e = rw (role-code (b - 64)) (omega (arith, ltb-false b 64 e))
-
--- what can be undone tells its arguments apart
-undone : {A B : Type 0} (f : A → B) (back : B → A) → ((a : A) → back (f a) ≡ a) → (a a′ : A) → f a ≡ f a′ → a ≡ a′
-undone f back is a a′ e = sym (is a) ∙ ap back e ∙ is a′
 
 rule-back : SaidRule → Rule
 rule-back (included b c) = Included (record { code = conceptCode b }) (record { code = conceptCode c })
@@ -96,10 +71,10 @@ rules-told-apart = undone rulesTold rules-back (elim [ Accepted h ↦ refl | Ref
 
 -- reading leaves one answer
 pub one-head : (s : List ℕ) (r r′ : HeadRead) → headTold r ≡ headOf s → headTold r′ ≡ headOf s → r ≡ r′
-one-head s r r′ e e′ = head-told-apart r r′ (e ∙ sym e′)
+one-head s r r′ e e′ = head-told-apart r r′ (one e e′)
 
 pub one-rule : (h : Head) (s : List ℕ) (at : ℕ) (r r′ : RuleRead) → ruleReadTold r ≡ ruleAt h s at → ruleReadTold r′ ≡ ruleAt h s at → r ≡ r′
-one-rule h s at r r′ e e′ = rule-read-told-apart r r′ (e ∙ sym e′)
+one-rule h s at r r′ e e′ = rule-read-told-apart r r′ (one e e′)
 
 pub one-rule-file : (s : List ℕ) (r r′ : RulesRead) → rulesTold r ≡ checkRules s → rulesTold r′ ≡ checkRules s → r ≡ r′
-one-rule-file s r r′ e e′ = rules-told-apart r r′ (e ∙ sym e′)
+one-rule-file s r r′ e e′ = rules-told-apart r r′ (one e e′)

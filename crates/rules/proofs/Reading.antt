@@ -1,14 +1,12 @@
 -- What the answers of the lower readers say of a rule file: one law for each way out of the readers.
-use Prim.Native.Nat.{ℕ, zero, suc, _+_, _-_, _/_, _≤_, _<_}
-use mathlib.Core.Path.{_≡_, refl, sym, ap, _∙_}
-use mathlib.Core.Bool.{Bool, true, false, cond, _||_, _&&_}
-use mathlib.Core.List.{List, [], _∷_}
-use lib.ListN.{length, getD, set}
-use lib.Dec.{leb, ltb, eqb}
-use native.Mathlib.Omega.{arith}
-use borrow.Author.Tests.{lt-ltb, le-ltb, le-leb, lt-leb, eq-eqb, ne-eqb}
+use Prim.Native.Nat.{ℕ, _-_, _≤_, _<_}
+use mathlib.Core.Path.{_≡_, sym, ap, _∙_}
+use mathlib.Core.Bool.{Bool, true, false}
+use mathlib.Core.List.{List}
+use lib.Dec.{leb}
+use borrow.Author.Tests.{le-leb, lt-leb, eq-eqb, ne-eqb}
 use borrow.Author.Needs.{needs}
-use Rattle.number.specs.Answer.{Answer, Read, refusal, _then_}
+use Rattle.number.specs.Answer.{Answer, Read, refusal}
 use Rattle.number.specs.Answer.Answer.{gives, refuses}
 use Rattle.number.specs.Number.{numberAt}
 use Rattle.number.specs.Told.{told, refusalIn}
@@ -16,16 +14,15 @@ use Rattle.number.specs.declared.refusal.Refusal.{Refusal}
 use Rattle.number.specs.declared.read.Num.{Num}
 use Rattle.number.specs.declared.read.Num.the-variants.{Value, Refused}
 use Rattle.site.specs.Codes.{conceptDeclared, roleDeclared, ruleOf}
-use Rattle.site.specs.Items.{countAt, codeAt, endAt}
+use Rattle.site.specs.Items.{countAt, codeAt}
 use Rattle.site.specs.Limits.{mostNumber, mostConcepts, mostRoles, mostRules, lastKind}
-use Rattle.site.specs.Told.{ruleTold, endTold}
+use Rattle.site.specs.Told.{ruleTold}
 use Rattle.site.specs.declared.nodes.Declared.{Declared}
 use Rattle.site.specs.declared.rule.Rule.{Rule}
 use Rattle.site.proofs.OfItems.{code-refused, code-known, code-unknown}
 use Rattle.rules.specs.RuleFile.{headOf, codeDeclared, ruleAt}
-use Rattle.rules.specs.Told.{headTold, ruleReadTold, ruleReadRefusal, rulesTold}
+use Rattle.rules.specs.Told.{headTold, ruleReadTold, ruleReadRefusal}
 use Rattle.rules.specs.declared.head.Head.{Head}
-use Rattle.rules.specs.declared.head.HeadRead.{HeadRead}
 use Rattle.rules.specs.declared.head.HeadRead.the-variants.{Read as HeadIs, Refused as HeadRefused}
 use Rattle.rules.specs.declared.read.RuleRead.{RuleRead}
 use Rattle.rules.specs.declared.read.RuleRead.the-variants.{Read as RuleIs, Refused as RuleRefused}

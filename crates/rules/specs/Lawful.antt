@@ -1,5 +1,5 @@
 -- What an accepted rule file's rules are: within the limits, of declared codes, and with no functional role on the right of an inclusion.
-use Prim.Native.Nat.{ℕ, _≤_}
+use Prim.Native.Nat.{_≤_}
 use mathlib.Core.Path.{_≡_}
 use mathlib.Core.Bool.{Bool, true, _&&_}
 use mathlib.Core.List.{List·Memᴰ}

@@ -1,11 +1,11 @@
 -- The rule file: its rules, or its refusal, as a function of its bytes.
 use Prim.Native.Nat.{ℕ, zero, suc}
-use mathlib.Core.Bool.{Bool, true, false, cond}
+use mathlib.Core.Bool.{Bool, false, cond}
 use mathlib.Core.List.{List, [], _∷_}
 use lib.Dec.{leb, eqb}
 use Rattle.number.specs.Answer.{Answer, Read, refusal, _then_, over}
 use Rattle.number.specs.Answer.Answer.{gives, refuses}
-use Rattle.site.specs.Kinds.{BasicRole, Rule, Site, roleIn}
+use Rattle.site.specs.Kinds.{Rule, Site, roleIn}
 use Rattle.site.specs.Kinds.Rule.{included, disjoint, roleIncluded, roleDisjoint, functional}
 use Rattle.site.specs.Codes.{conceptDeclared, roleDeclared, ruleOf}
 use Rattle.site.specs.Limits.{mostConcepts, mostRoles, mostRules, lastKind}

@@ -1,5 +1,6 @@
 pub mod Lists
 pub mod Order
+pub mod OfCodes
 pub mod OfItems
 pub mod OfKinds
 pub mod Same

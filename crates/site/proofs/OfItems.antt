@@ -1,21 +1,21 @@
 -- What the number reader's answer says of a count, a code and the end: one law for each way on, which the readers of every file share.
 use Prim.Native.Nat.{ℕ, _≤_, _<_}
-use mathlib.Core.Path.{_≡_, refl, sym, ap, _∙_}
+use mathlib.Core.Path.{_≡_, sym, ap, _∙_}
 use mathlib.Core.Bool.{Bool, true, false}
 use mathlib.Core.List.{List}
 use lib.ListN.{length}
 use borrow.Author.Tests.{lt-ltb, le-ltb, le-leb, lt-leb}
 use borrow.Author.Needs.{needs}
-use Rattle.number.specs.Answer.{Answer, Read, refusal}
+use Rattle.number.specs.Answer.{refusal}
 use Rattle.number.specs.Answer.Answer.{gives, refuses}
 use Rattle.number.specs.Number.{numberAt}
-use Rattle.number.specs.Told.{told, refusalIn}
+use Rattle.number.specs.Told.{told}
 use Rattle.number.specs.declared.refusal.Refusal.{Refusal}
 use Rattle.number.specs.declared.read.Num.{Num}
 use Rattle.number.specs.declared.read.Num.the-variants.{Value, Refused}
 use Rattle.site.specs.Items.{countAt, codeAt, endAt}
 use Rattle.site.specs.Limits.{mostNumber}
-use Rattle.site.specs.Told.{endTold, endRefusal}
+use Rattle.site.specs.Told.{endRefusal}
 use Rattle.site.specs.declared.items.End.{End}
 use Rattle.site.specs.declared.items.End.the-variants.{At}
 

@@ -1,22 +1,20 @@
 -- What the code's tests on codes say of the kinds: one law for each way out of the functions of this crate.
-use Prim.Native.Nat.{ℕ, zero, suc, _+_, _-_, _/_, _%_, _≤_, _<_}
-use mathlib.Core.Path.{_≡_, refl, sym, ap, _∙_}
-use mathlib.Core.Bool.{Bool, true, false, _&&_, _||_, or-false, cond}
-use lib.Dec.{eqb, ltb, leb}
+use Prim.Native.Nat.{ℕ, suc, _+_, _-_, _/_, _%_, _≤_, _<_}
+use mathlib.Core.Path.{_≡_, refl}
+use mathlib.Core.Bool.{Bool, true, false, or-false, cond}
+use lib.Dec.{eqb, ltb}
 use native.Mathlib.Omega.{arith}
 use borrow.Author.Tests.{lt-ltb, le-ltb, eq-eqb, ne-eqb}
 use borrow.Author.Needs.{needs}
-use Rattle.site.specs.Kinds.{BasicRole, Site, turned, below, roleIn, declaredRole, declared}
+use Rattle.site.specs.Kinds.{Site, turned, below, roleIn, declaredRole, declared}
 use Rattle.site.specs.Kinds.BasicRole.{forward, inverse}
 use Rattle.site.specs.Kinds.BasicConcept.{named, some}
 use Rattle.site.specs.Kinds.Node.{concept}
-use Rattle.site.specs.Kinds.Rule.{included, disjoint, roleIncluded, roleDisjoint, functional}
 use Rattle.site.specs.Codes.{roleOf, conceptOf, roleDeclared, conceptDeclared, predicateDeclared, ruleOf}
 use Rattle.site.specs.Told.{ruleTold}
 use Rattle.site.specs.declared.fact.Fact.{Fact}
 use Rattle.site.specs.declared.nodes.BasicRole.{BasicRole as RoleCode}
 use Rattle.site.specs.declared.nodes.BasicConcept.{BasicConcept as ConceptCode}
-use Rattle.site.specs.declared.rule.Rule.{Rule}
 use Rattle.site.specs.declared.rule.Rule.the-variants.{Included, Disjoint, RoleIncluded, RoleDisjoint, Functional}
 
 -- the two directions of a role

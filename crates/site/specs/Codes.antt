@@ -1,8 +1,8 @@
 -- Codes: the numbers by which files, calls and tables name the kinds.
 use Prim.Native.Nat.{ℕ, zero, suc, _+_, _-_, _*_, _/_, _%_}
 use mathlib.Core.Bool.{Bool, cond}
-use lib.Dec.{eqb, ltb, leb}
-use Rattle.site.specs.Kinds.{BasicRole, BasicConcept, Node, Rule, Site}
+use lib.Dec.{eqb, ltb}
+use Rattle.site.specs.Kinds.{BasicRole, BasicConcept, Node, Rule}
 use Rattle.site.specs.Kinds.BasicRole.{forward, inverse}
 use Rattle.site.specs.Kinds.BasicConcept.{named, some}
 use Rattle.site.specs.Kinds.Node.{concept, role}

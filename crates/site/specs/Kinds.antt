@@ -1,6 +1,6 @@
 -- The kinds of document 01: basic roles and concepts, nodes, rules, facts, and a site's rules as a whole.
 use Prim.Native.Nat.{ℕ}
-use mathlib.Core.Bool.{Bool, true, false, _&&_, _||_}
+use mathlib.Core.Bool.{Bool, false, _&&_, _||_}
 use mathlib.Core.List.{List}
 use lib.Dec.{eqb, ltb}
 use Rattle.site.specs.declared.fact.Fact.{Fact}

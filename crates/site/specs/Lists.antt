@@ -1,6 +1,6 @@
 -- Plain functions on lists that the definitions of every layer use.
 use Prim.Native.Nat.{ℕ, zero, suc, _+_}
-use mathlib.Core.Bool.{Bool, true, false, cond, _||_}
+use mathlib.Core.Bool.{Bool, false, cond, _||_}
 use mathlib.Core.List.{List, [], _∷_, _++_}
 
 -- the numbers below n, ascending

@@ -1,6 +1,5 @@
 -- Demand 3, with nothing assumed: accepted rules are lawful, their tables decide, accepted facts are lawful, and worlds decide of all such.
-use Prim.Native.Nat.{ℕ}
-use mathlib.Core.Path.{_≡_, refl, subst}
+use mathlib.Core.Path.{refl, subst}
 use mathlib.Core.List.{List}
 use Rattle.number.proofs.Answers.{over-given}
 use Rattle.site.specs.declared.fact.Fact.{Fact}

@@ -5,7 +5,6 @@ use mathlib.Core.Bool.{true}
 use mathlib.Core.Logic.{_↔_}
 use mathlib.Core.List.{List, List·Memᴰ}
 use lib.ListN.{length}
-use Rattle.number.specs.Answer.{Answer}
 use Rattle.number.specs.Answer.Answer.{gives}
 use Rattle.site.specs.declared.fact.Fact.{Fact}
 use Rattle.site.specs.Kinds.{Site}
@@ -18,7 +17,7 @@ use Rattle.bundle.specs.Bundle.{readBundle}
 use Rattle.follows.specs.Tables.{followsOf}
 use Rattle.clean.specs.Types.{itself, typ}
 use Rattle.clean.specs.Marks.{mark, kept, support}
-use Rattle.worlds.specs.Worlds.{World, Is, Joins, Consistent, LeftOut, Always}
+use Rattle.worlds.specs.Worlds.{Is, Joins, Consistent, LeftOut, Always}
 
 -- the statement for a site's rules and facts
 pub record WorldsDecide (h : Head) (s : Site) (facts : List Fact) : Type 1 where
