@@ -1,2 +1,5 @@
+pub mod NeverZero
 pub mod OfFace
+pub mod OfRecords
 pub mod OneAnswer
+pub mod Walks

@@ -1,11 +1,9 @@
 -- The face: each case of an answer shown as C sees it, and each operation's promise from that of the operation below it.
 use Prim.Native.Nat.{ℕ}
-use mathlib.Core.Path.{_≡_, refl, sym, ap, _∙_}
+use mathlib.Core.Path.{_≡_, ap, _∙_}
 use mathlib.Core.List.{List}
 use lib.ListN.{length}
 use borrow.Author.Needs.{needs}
-use Rattle.number.specs.Answer.{Answer, over, laid}
-use Rattle.number.specs.Answer.Answer.{gives, refuses}
 use Rattle.number.specs.declared.refusal.Refusal.{Refusal}
 use Rattle.rules.specs.RuleFile.{checkRules}
 use Rattle.rules.specs.Told.{rulesTold}

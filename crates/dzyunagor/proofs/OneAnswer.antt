@@ -1,16 +1,17 @@
 -- Each promise leaves one answer only, lent memory included: two outcomes that are equal to the same definition are equal.
 use Prim.Native.Nat.{ℕ}
-use mathlib.Core.Path.{_≡_, sym, _∙_}
+use mathlib.Core.Path.{_≡_}
 use mathlib.Core.List.{List}
-use Rattle.dzyunagor.specs.Promises.{CheckRules, CheckBundle, Mark, Count, Ask, Has, Joins, WriteKept}
+use Rattle.number.proofs.One.{one, Same}
+use Rattle.records.specs.declared.record.Record.{Record}
+use Rattle.records.specs.declared.reader.Reader.{Reader}
+use Rattle.dzyunagor.specs.Promises.{CheckRules, CheckBundle, Mark, Count, Ask, Has, Joins, WriteKept, Records, WriteRecords, ReaderStart, ReaderNext}
 use Rattle.dzyunagor.specs.declared.shapes.DzyCounts.{DzyCounts}
 use Rattle.dzyunagor.specs.declared.shapes.DzyAsked.{DzyAsked}
 use Rattle.dzyunagor.specs.declared.shapes.DzyAnswer.{DzyAnswer}
 use Rattle.dzyunagor.specs.declared.shapes.DzyLength.{DzyLength}
-
--- the one general law
-one : {A : Type 0} {x y z : A} → x ≡ z → y ≡ z → x ≡ y
-one p q = p ∙ sym q
+use Rattle.dzyunagor.specs.declared.shapes.DzyStart.{DzyStart}
+use Rattle.dzyunagor.specs.declared.shapes.DzyYield.{DzyYield}
 
 module _ (rules : List ℕ) where
   pub one-check-rules : {r r′ : DzyLength} → CheckRules rules r → CheckRules rules r′ → r ≡ r′
@@ -49,9 +50,26 @@ module _ (rules : List ℕ) where
     one-mark row pair p q =
         record { answer = one (p .answer) (q .answer); marks = one (p .marks) (q .marks); partners = one (p .partners) (q .partners) }
 
-    pub record SameOutput (r r′ : DzyLength) (out out′ : List ℕ) : Type 0 where
-      pub answer : r ≡ r′
-      pub memory : out ≡ out′
-
-    pub one-write-kept : (out : List ℕ) {r r′ : DzyLength} {out₁ out₂ : List ℕ} → WriteKept rules bundle out r out₁ → WriteKept rules bundle out r′ out₂ → SameOutput r r′ out₁ out₂
+    pub one-write-kept : (out : List ℕ) {r r′ : DzyLength} {out₁ out₂ : List ℕ} → WriteKept rules bundle out r out₁ → WriteKept rules bundle out r′ out₂ → Same r r′ out₁ out₂
     one-write-kept out p q = record { answer = one (p .answer) (q .answer); memory = one (p .memory) (q .memory) }
+
+    pub one-records : (row : List Record) {r r′ : DzyLength} {row₁ row₂ : List Record} → Records rules bundle row r row₁ → Records rules bundle row r′ row₂ → Same r r′ row₁ row₂
+    one-records row p q = record { answer = one (p .answer) (q .answer); memory = one (p .memory) (q .memory) }
+
+    pub one-reader-start : {r r′ : DzyStart} → ReaderStart rules bundle r → ReaderStart rules bundle r′ → r ≡ r′
+    unfolding ReaderStart
+    one-reader-start p q = one p q
+
+  pub one-write-records : (row : List Record) (out : List ℕ) {r r′ : DzyLength} {out₁ out₂ : List ℕ} → WriteRecords rules row out r out₁ → WriteRecords rules row out r′ out₂ → Same r r′ out₁ out₂
+  one-write-records row out p q = record { answer = one (p .answer) (q .answer); memory = one (p .memory) (q .memory) }
+
+-- a reader: what it yields, and the reader afterwards
+pub record SameStep (r r′ : DzyYield) (after after′ : Reader) : Type 0 where
+  pub answer : r ≡ r′
+  pub reader : after ≡ after′
+
+pub one-reader-next : (before : Reader) {r r′ : DzyYield} {after₁ after₂ : Reader} → ReaderNext before r after₁ → ReaderNext before r′ after₂ → SameStep r r′ after₁ after₂
+one-reader-next before {after₁ = after₁} {after₂ = after₂} p q =
+    let src : after₁ .src ≡ after₂ .src = one (p .bundle) (q .bundle) in
+    let at : after₁ .at ≡ after₂ .at = one (p .next) (q .next) in
+    record { answer = one (p .answer) (q .answer); reader = λ i. record { src = src i; at = at i } }

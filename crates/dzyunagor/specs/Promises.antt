@@ -4,15 +4,22 @@ use Prim.Native.Nat.{ℕ}
 use mathlib.Core.Path.{_≡_}
 use mathlib.Core.List.{List}
 use lib.ListN.{length}
-use Rattle.number.specs.Answer.{Answer, over, laid}
+use denote.Ref.{now}
+use Rattle.number.specs.Answer.{over, laid}
 use Rattle.rules.specs.RuleFile.{checkRules}
 use Rattle.clean.specs.Operations.{marking, counting, asking, having, joining, keeping}
 use Rattle.operations.specs.Promises.{opening}
-use Rattle.dzyunagor.specs.Shown.{shownCounts, shownAsked, shownAnswer, shownLength}
+use Rattle.records.specs.Reading.{readerStart, readerStep}
+use Rattle.records.specs.Rows.{handRecords, rowAfter, writeRow}
+use Rattle.records.specs.declared.record.Record.{Record}
+use Rattle.records.specs.declared.reader.Reader.{Reader}
+use Rattle.dzyunagor.specs.Shown.{shownCounts, shownAsked, shownAnswer, shownLength, shownStart, shownYield}
 use Rattle.dzyunagor.specs.declared.shapes.DzyCounts.{DzyCounts}
 use Rattle.dzyunagor.specs.declared.shapes.DzyAsked.{DzyAsked}
 use Rattle.dzyunagor.specs.declared.shapes.DzyAnswer.{DzyAnswer}
 use Rattle.dzyunagor.specs.declared.shapes.DzyLength.{DzyLength}
+use Rattle.dzyunagor.specs.declared.shapes.DzyStart.{DzyStart}
+use Rattle.dzyunagor.specs.declared.shapes.DzyYield.{DzyYield}
 
 -- reading the rules: how many they are
 unfoldable pub CheckRules : List ℕ → DzyLength → Type 0
@@ -47,3 +54,23 @@ Joins rules bundle code from to r = r ≡ shownAnswer (joining rules bundle code
 pub record WriteKept (rules bundle out : List ℕ) (r : DzyLength) (out′ : List ℕ) : Type 0 where
   pub answer : r ≡ shownLength (over length (keeping rules bundle (length out)))
   pub memory : out′ ≡ laid out 0 (keeping rules bundle (length out))
+
+-- "The console receives the facts as a lent row of fact records": their count, and the row
+pub record Records (rules bundle : List ℕ) (row : List Record) (r : DzyLength) (row′ : List Record) : Type 0 where
+  pub answer : r ≡ shownLength (over length (handRecords rules bundle (length row)))
+  pub memory : row′ ≡ rowAfter row (handRecords rules bundle (length row))
+
+-- "and hands such a row back to be written": the bundle's length, and the output
+pub record WriteRecords (rules : List ℕ) (row : List Record) (out : List ℕ) (r : DzyLength) (out′ : List ℕ) : Type 0 where
+  pub answer : r ≡ shownLength (over length (writeRow rules (length out) row))
+  pub memory : out′ ≡ laid out 0 (writeRow rules (length out) row)
+
+-- "A reader that remembers the bundle and its next byte": its first next byte
+unfoldable pub ReaderStart : List ℕ → List ℕ → DzyStart → Type 0
+ReaderStart rules bundle r = r ≡ shownStart (readerStart rules bundle)
+
+-- it "yields one fact at a time": what it yields, the same bundle, and its next byte afterwards
+pub record ReaderNext (before : Reader) (r : DzyYield) (after : Reader) : Type 0 where
+  pub answer : r ≡ shownYield (readerStep (now (before .src)) (before .at) .yields)
+  pub bundle : after .src ≡ before .src
+  pub next : after .at ≡ readerStep (now (before .src)) (before .at) .next

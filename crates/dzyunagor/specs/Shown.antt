@@ -1,6 +1,5 @@
 -- How C sees an answer: the refusal's number, side and place (number 0: not refused), and zeros in the fields that do not apply.
 use Prim.Native.Nat.{ℕ}
-use mathlib.Core.List.{List}
 use lib.ListN.{length}
 use Rattle.number.specs.Answer.{Answer}
 use Rattle.number.specs.Answer.Answer.{gives, refuses}
@@ -9,11 +8,19 @@ use Rattle.clean.specs.Operations.{Reply}
 use Rattle.clean.specs.Operations.Reply.{yes-by, none}
 use Rattle.clean.specs.declared.answers.Counts.{Counts}
 use Rattle.clean.specs.declared.answers.Judged.{Judged}
+use Rattle.records.specs.Reading.{Found}
+use Rattle.records.specs.Reading.Found.{fact, done}
+use Rattle.records.specs.Rows.{recordOf}
+use Rattle.records.specs.declared.record.Record.{Record}
+use Rattle.records.specs.declared.hand.Handed.{Handed}
+use Rattle.records.specs.declared.write.WroteRow.{WroteRow}
 use Rattle.dzyunagor.specs.declared.shapes.DzyRefusal.{DzyRefusal}
 use Rattle.dzyunagor.specs.declared.shapes.DzyCounts.{DzyCounts}
 use Rattle.dzyunagor.specs.declared.shapes.DzyAsked.{DzyAsked}
 use Rattle.dzyunagor.specs.declared.shapes.DzyAnswer.{DzyAnswer}
 use Rattle.dzyunagor.specs.declared.shapes.DzyLength.{DzyLength}
+use Rattle.dzyunagor.specs.declared.shapes.DzyStart.{DzyStart}
+use Rattle.dzyunagor.specs.declared.shapes.DzyYield.{DzyYield}
 
 abbrev pub notRefused : DzyRefusal
 notRefused = record { number = 0; side = 0; place = 0 }
@@ -40,3 +47,26 @@ shownAnswer (refuses r) = record { refused = refused r; yes = 0; fact = 0 }
 abbrev pub shownLength : Answer ℕ → DzyLength
 shownLength (gives n) = record { refused = notRefused; length = n }
 shownLength (refuses r) = record { refused = refused r; length = 0 }
+
+-- the answers of the two rows of records, which C sees as a length
+abbrev pub shownHanded : Handed → DzyLength
+shownHanded h = record { refused = record { number = h .number; side = h .side; place = h .place }; length = h .count }
+
+abbrev pub shownWrote : WroteRow → DzyLength
+shownWrote w = record { refused = record { number = w .number; side = w .side; place = w .place }; length = w .length }
+
+-- a reader's start, and what it yields: found 1 with the fact's record, or found 0 once it is done
+abbrev pub shownStart : Answer ℕ → DzyStart
+shownStart (gives at) = record { refused = notRefused; at = at }
+shownStart (refuses r) = record { refused = refused r; at = 0 }
+
+abbrev pub noRecord : Record
+noRecord = record { predicate = 0; subject = 0; object = 0 }
+
+abbrev pub shownFound : Found → DzyYield
+shownFound (fact f) = record { refused = notRefused; found = 1; fact = recordOf f }
+shownFound done = record { refused = notRefused; found = 0; fact = noRecord }
+
+abbrev pub shownYield : Answer Found → DzyYield
+shownYield (gives found) = shownFound found
+shownYield (refuses r) = record { refused = refused r; found = 0; fact = noRecord }

@@ -1,22 +1,30 @@
 // The library's face: every public operation, for C and Rust, without any demand on the caller.
-ghost use Rattle.dzyunagor.specs.Promises.{CheckRules, CheckBundle, Mark, Count, Ask, Has, Joins, WriteKept};
+ghost use Rattle.dzyunagor.specs.Promises.{CheckRules, CheckBundle, Mark, Count, Ask, Has, Joins, WriteKept, Records, WriteRecords, ReaderStart, ReaderNext};
 
 mod shapes;
 mod show;
 
 use operations::Opened;
+use records::Reader;
+use records::Record;
 use rules::RulesRead;
 pub use shapes::DzyAnswer;
 pub use shapes::DzyAsked;
 pub use shapes::DzyCounts;
 pub use shapes::DzyLength;
 pub use shapes::DzyRefusal;
+pub use shapes::DzyStart;
+pub use shapes::DzyYield;
 use shapes::is_refused;
 use shapes::not_refused;
 use show::show_answer;
 use show::show_asked;
 use show::show_counts;
+use show::show_handed;
 use show::show_length;
+use show::show_start;
+use show::show_wrote;
+use show::show_yield;
 
 // How many rules an accepted rule file has.
 #[no_mangle]
@@ -103,4 +111,36 @@ pub extern "C" fn dzy_write_kept(rules: &[u8], bundle: &[u8], out: &mut [u8]) ->
     ensures { λ r. ⌜ WriteKept (now (rules .entry)) (now (bundle .entry)) (now (out .entry)) r (now (out .exit)) ⌝ }
 {
     show_length(operations::write_kept(rules, bundle, out))
+}
+
+// The facts as records, into a lent row, and how many they are.
+#[no_mangle]
+pub extern "C" fn dzy_records(rules: &[u8], bundle: &[u8], row: &mut [Record]) -> DzyLength
+    ensures { λ r. ⌜ Records (now (rules .entry)) (now (bundle .entry)) (now (row .entry)) r (now (row .exit)) ⌝ }
+{
+    show_handed(records::hand_records(rules, bundle, row))
+}
+
+// A row of records as a bundle, into a lent output, and its length.
+#[no_mangle]
+pub extern "C" fn dzy_write_records(rules: &[u8], row: &[Record], out: &mut [u8]) -> DzyLength
+    ensures { λ r. ⌜ WriteRecords (now (rules .entry)) (now (row .entry)) (now (out .entry)) r (now (out .exit)) ⌝ }
+{
+    show_wrote(records::write_records(rules, row, out))
+}
+
+// Where a reader of an accepted bundle starts; its caller puts it together from the bundle and this place.
+#[no_mangle]
+pub extern "C" fn dzy_reader_start(rules: &[u8], bundle: &[u8]) -> DzyStart
+    ensures { λ r. ⌜ ReaderStart (now (rules .entry)) (now (bundle .entry)) r ⌝ }
+{
+    show_start(records::start(rules, bundle))
+}
+
+// What a reader yields, from any state whatever; it moves on past a fact and by nothing else.
+#[no_mangle]
+pub extern "C" fn dzy_reader_next<'s, 'a>(reader: &'s mut Reader<'a>) -> DzyYield
+    ensures { λ r. ⌜ ReaderNext (now (reader .entry)) r (now (reader .exit)) ⌝ }
+{
+    show_yield(records::next(reader))
 }

@@ -2,6 +2,7 @@
 ghost use mathlib.Core.Path.{_≡_};
 ghost use Rattle.dzyunagor.specs.Shown.{notRefused, refused};
 use number::Refusal;
+use records::Record;
 
 // A refusal's number, side and place; number 0: not refused.
 #[repr(C)]
@@ -38,6 +39,21 @@ pub struct DzyAnswer {
 pub struct DzyLength {
     pub refused: DzyRefusal,
     pub length: u64,
+}
+
+// Where a reader starts.
+#[repr(C)]
+pub struct DzyStart {
+    pub refused: DzyRefusal,
+    pub at: u64,
+}
+
+// What a reader yields; found 0: it is done.
+#[repr(C)]
+pub struct DzyYield {
+    pub refused: DzyRefusal,
+    pub found: u32,
+    pub fact: Record,
 }
 
 pub fn not_refused() -> DzyRefusal

@@ -2,17 +2,26 @@
 ghost use mathlib.Core.Path.{_≡_};
 ghost use Rattle.bundle.specs.Pushed.{wroteTold};
 ghost use Rattle.operations.specs.Promises.{countedTold, askedTold, repliedTold};
-ghost use Rattle.dzyunagor.specs.Shown.{shownCounts, shownAsked, shownAnswer, shownLength};
+ghost use Rattle.records.specs.Told.{startTold, yieldTold};
+ghost use Rattle.dzyunagor.specs.Shown.{shownCounts, shownAsked, shownAnswer, shownLength, shownHanded, shownWrote, shownStart, shownYield, noRecord};
 use crate::shapes::DzyAnswer;
 use crate::shapes::DzyAsked;
 use crate::shapes::DzyCounts;
 use crate::shapes::DzyLength;
+use crate::shapes::DzyRefusal;
+use crate::shapes::DzyStart;
+use crate::shapes::DzyYield;
 use crate::shapes::is_refused;
 use crate::shapes::not_refused;
 use bundle::BundleWrote;
 use operations::Asked;
 use operations::Counted;
 use operations::Replied;
+use records::Handed;
+use records::Record;
+use records::Started;
+use records::WroteRow;
+use records::Yield;
 
 pub fn show_counts(a: Counted) -> DzyCounts
     ensures { λ r. ⌜ r ≡ shownCounts (countedTold a) ⌝ }
@@ -85,6 +94,80 @@ pub fn show_length(a: BundleWrote) -> DzyLength
         BundleWrote::Refused(r) => DzyLength {
             refused: is_refused(r),
             length: 0,
+        },
+    }
+}
+
+pub fn show_handed(a: Handed) -> DzyLength
+    ensures { λ r. ⌜ r ≡ shownHanded a ⌝ }
+{
+    DzyLength {
+        refused: DzyRefusal {
+            number: a.number,
+            side: a.side,
+            place: a.place as u64,
+        },
+        length: a.count as u64,
+    }
+}
+
+pub fn show_wrote(a: WroteRow) -> DzyLength
+    ensures { λ r. ⌜ r ≡ shownWrote a ⌝ }
+{
+    DzyLength {
+        refused: DzyRefusal {
+            number: a.number,
+            side: a.side,
+            place: a.place as u64,
+        },
+        length: a.length as u64,
+    }
+}
+
+pub fn show_start(a: Started) -> DzyStart
+    ensures { λ r. ⌜ r ≡ shownStart (startTold a) ⌝ }
+{
+    match a {
+        Started::At(at) => DzyStart {
+            refused: not_refused(),
+            at: at as u64,
+        },
+        Started::Refused(r) => DzyStart {
+            refused: is_refused(r),
+            at: 0,
+        },
+    }
+}
+
+// The record beside a refusal and beside the end.
+fn no_record() -> Record
+    ensures { λ r. ⌜ r ≡ noRecord ⌝ }
+{
+    Record {
+        predicate: 0,
+        subject: 0,
+        object: 0,
+    }
+}
+
+pub fn show_yield(a: Yield) -> DzyYield
+    ensures { λ r. ⌜ r ≡ shownYield (yieldTold a) ⌝ }
+{
+    match a {
+        Yield::Fact(fact) => DzyYield {
+            refused: not_refused(),
+            found: 1,
+            fact: Record::of(fact),
+        },
+        Yield::Refused(r) => DzyYield {
+            refused: is_refused(r),
+            found: 0,
+            fact: no_record(),
+        },
+        Yield::Done => DzyYield {
+            refused: not_refused(),
+            found: 0,
+            fact: no_record(),
         },
     }
 }
