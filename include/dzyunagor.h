@@ -18,10 +18,10 @@
 extern "C" {
 #endif
 
-/* The most facts of a bundle: a row of so many marks or partners is never too short. */
+/* The most facts of a bundle: a row of so many marks, partners or records is never too short. */
 #define DZY_MOST_FACTS 4096
 
-/* The most bytes of an accepted bundle: an output of so many is never too short for the kept facts. */
+/* The most bytes of an accepted bundle: an output of so many is never too short for the kept facts, nor for a row's bundle. */
 #define DZY_MOST_BUNDLE 28674
 
 /* The largest thing: a device number. */
@@ -44,11 +44,11 @@ extern "C" {
 #define DZY_CUT 1      /* the bytes end before a number that is due is complete */
 #define DZY_LONG 2     /* a number of more than one byte, the last of them 0 */
 #define DZY_OVER 3     /* a third byte with its top bit set, or a value over 65,535 */
-#define DZY_COUNT 4    /* a count over its limit */
-#define DZY_UNKNOWN 5  /* a rule kind over 4; a concept or role that is not declared */
+#define DZY_COUNT 4    /* a count over its limit; more than 4,096 records */
+#define DZY_UNKNOWN 5  /* a rule kind over 4; a concept or role that is not declared; a concept record whose object is not 0 */
 #define DZY_BROKEN 6   /* a functional role on the right of a kind 2 rule */
 #define DZY_AFTER 7    /* bytes after the last item */
-#define DZY_ORDER 8    /* a fact not above the one before it */
+#define DZY_ORDER 8    /* a fact or record not above the one before it */
 #define DZY_ROOM 9     /* a lent output too short */
 #define DZY_NO_FACT 10 /* a fact number not below the count */
 
@@ -56,7 +56,7 @@ extern "C" {
 typedef struct dzy_refusal {
     uint32_t number; /* 0, or 1 to 10 */
     uint32_t side;   /* 0 the rules, 1 the bundle, 2 the call's own arguments */
-    uint64_t place;  /* the byte, for sides 0 and 1; 0 for side 2 */
+    uint64_t place;  /* the byte, for sides 0 and 1; for side 2 the number of the record at fault, else 0 */
 } dzy_refusal;
 
 /* How many facts there are, and how many of each mark. The three add up to the facts. */
@@ -82,11 +82,39 @@ typedef struct dzy_answer {
     uint32_t fact; /* for yes the lowest-numbered kept fact that says so; for no 0 */
 } dzy_answer;
 
-/* How many bytes, rules or facts. */
+/* How many bytes, rules, facts or records. */
 typedef struct dzy_length {
     dzy_refusal refused;
     uint64_t length;
 } dzy_length;
+
+/* A fact as three numbers. */
+typedef struct dzy_record {
+    uint32_t predicate; /* i for concept i, 64+j for role j */
+    uint32_t subject;   /* a thing */
+    uint32_t object;    /* a thing; 0 for a concept */
+} dzy_record;
+
+/* A reader of facts, one at a time. The caller fills it in: a bundle, and the place where dzy_reader_start says it starts.
+ * Any other bytes and any other place may be set too. The bundle is never NULL. */
+typedef struct dzy_reader {
+    const uint8_t *bundle;
+    size_t length; /* of the bundle, in bytes */
+    size_t at;     /* the next byte */
+} dzy_reader;
+
+/* Where a reader starts. */
+typedef struct dzy_start {
+    dzy_refusal refused;
+    uint64_t at;
+} dzy_start;
+
+/* What a reader yields. */
+typedef struct dzy_yield {
+    dzy_refusal refused;
+    uint32_t found;  /* 1 with a fact; 0 and not refused: it is done */
+    dzy_record fact; /* all 0 where there is none */
+} dzy_yield;
 
 /* Marks every fact. Writes a mark and a partner for each fact, in order; gives the counts.
  * Refuses 9 if either row is shorter than the count of facts. */
@@ -115,6 +143,26 @@ dzy_answer dzy_joins(const uint8_t *rules, size_t rules_length, const uint8_t *b
  * Refuses 9 if the output is shorter than that. */
 dzy_length dzy_write_kept(const uint8_t *rules, size_t rules_length, const uint8_t *bundle, size_t bundle_length,
                           uint8_t *out, size_t out_length);
+
+/* Hands the facts out as records, in order, from the row's first slot on; gives their count.
+ * Refuses 9 if the row is shorter than that. */
+dzy_length dzy_records(const uint8_t *rules, size_t rules_length, const uint8_t *bundle, size_t bundle_length,
+                       dzy_record *row, size_t row_length);
+
+/* Writes a row of records as a bundle, from the output's first byte on; gives its length in bytes.
+ * Refuses 4 if there are more than 4,096. Then, at the first record at fault, in this order: 5 if its predicate is not
+ * declared, 5 if it is of a concept and its object is not 0, 3 if its subject, then its object, is over 65,535, 8 if it is
+ * not above the one before it. Then 9 if the output is shorter than the bundle. */
+dzy_length dzy_write_records(const uint8_t *rules, size_t rules_length, const dzy_record *row, size_t row_length,
+                             uint8_t *out, size_t out_length);
+
+/* Judges a rule file, then a bundle under it; gives the place of the bundle's first fact, where a reader starts. */
+dzy_start dzy_reader_start(const uint8_t *rules, size_t rules_length, const uint8_t *bundle, size_t bundle_length);
+
+/* Yields the fact whose numbers stand at the reader's next byte, and moves the reader behind it. No predicate is refused;
+ * one from 64 on has an object. Refuses 1, 2 or 3 on side 1 at the number at fault; the reader stays where it is.
+ * At or past the end it is done, and stays there. Nothing but the reader's place is written. */
+dzy_yield dzy_reader_next(dzy_reader *reader);
 
 /* Judges a rule file; gives the number of rules. */
 dzy_length dzy_check_rules(const uint8_t *rules, size_t rules_length);

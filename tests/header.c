@@ -8,4 +8,9 @@ _Static_assert(offsetof(dzy_counts, kept) == 20 && offsetof(dzy_counts, alone) =
 _Static_assert(sizeof(dzy_asked) == 24 && offsetof(dzy_asked, mark) == 16 && offsetof(dzy_asked, partner) == 20, "asked");
 _Static_assert(sizeof(dzy_answer) == 24 && offsetof(dzy_answer, yes) == 16 && offsetof(dzy_answer, fact) == 20, "answer");
 _Static_assert(sizeof(dzy_length) == 24 && offsetof(dzy_length, length) == 16, "length");
+_Static_assert(sizeof(dzy_record) == 12 && _Alignof(dzy_record) == 4, "record");
+_Static_assert(offsetof(dzy_record, predicate) == 0 && offsetof(dzy_record, subject) == 4 && offsetof(dzy_record, object) == 8, "record");
+_Static_assert(sizeof(dzy_reader) == 24 && offsetof(dzy_reader, length) == 8 && offsetof(dzy_reader, at) == 16, "reader");
+_Static_assert(sizeof(dzy_start) == 24 && offsetof(dzy_start, refused) == 0 && offsetof(dzy_start, at) == 16, "start");
+_Static_assert(sizeof(dzy_yield) == 32 && offsetof(dzy_yield, found) == 16 && offsetof(dzy_yield, fact) == 20, "yield");
 _Static_assert(sizeof(size_t) == 8, "lengths are of 64 bits");
