@@ -2,6 +2,8 @@
  *
  * A request is eight 64-bit numbers: the operation, the lengths of rules and bundle, three arguments, and how
  * many bytes and 16-bit numbers are lent as outputs; then the rules, the bundle and the outputs as they are lent.
+ * A row of records is its bytes: handed out, it is the bytes that are lent; to be written, it takes the bundle's place.
+ * A reader's next byte is a 64-bit number in the bytes that are lent.
  * The reply is eight 64-bit numbers: the refusal's number, side and place, four values, and whether all memory
  * but the lent outputs is as it was; then the outputs. Numbers are little-endian, as x86-64 has them. */
 #include "lent.h"
@@ -11,7 +13,20 @@
 /* The longest file or output that is relayed. */
 enum { MOST = 1 << 18, NUMBERS = 8 };
 
-enum { OP_MARK, OP_COUNT, OP_ASK, OP_HAS, OP_JOINS, OP_WRITE_KEPT, OP_CHECK_RULES, OP_CHECK_BUNDLE };
+enum {
+  OP_MARK,
+  OP_COUNT,
+  OP_ASK,
+  OP_HAS,
+  OP_JOINS,
+  OP_WRITE_KEPT,
+  OP_CHECK_RULES,
+  OP_CHECK_BUNDLE,
+  OP_RECORDS,
+  OP_WRITE_RECORDS,
+  OP_READER_START,
+  OP_READER_NEXT
+};
 
 typedef struct {
   uint64_t op, rules, bundle, a, b, c, bytes, words;
@@ -24,7 +39,7 @@ typedef struct {
 _Static_assert(sizeof(request) == NUMBERS * 8 && sizeof(reply) == NUMBERS * 8, "eight numbers");
 
 /* The memory that is lent, and copies of the files to see that they stay as they are. */
-static lent rules, bundle, bytes, words;
+static lent rules, bundle, bytes, words, reader;
 static uint8_t rules_copy[MOST], bundle_copy[MOST];
 
 static void read_into(lent *l, uint64_t length, edge where) {
@@ -62,8 +77,35 @@ static void put_length(reply *r, dzy_length l) {
   r->values[0] = l.length;
 }
 
+static void put_start(reply *r, dzy_start s) {
+  REFUSAL(r, s);
+  r->values[0] = s.at;
+}
+
+static void put_yield(reply *r, dzy_yield y) {
+  REFUSAL(r, y);
+  r->values[0] = y.found;
+  r->values[1] = y.fact.predicate;
+  r->values[2] = y.fact.subject;
+  r->values[3] = y.fact.object;
+}
+
+/* A step of a reader that stands on guarded memory too; it keeps its bundle. */
+static void step(reply *r) {
+  uint64_t at;
+  dzy_reader *lent_reader = (dzy_reader *)(void *)reader.at;
+  must(bytes.length == sizeof at);
+  memcpy(&at, bytes.at, sizeof at);
+  *lent_reader = (dzy_reader){bundle.at, bundle.length, (size_t)at};
+  put_yield(r, dzy_reader_next(lent_reader));
+  must(lent_reader->bundle == bundle.at && lent_reader->length == bundle.length);
+  at = lent_reader->at;
+  memcpy(bytes.at, &at, sizeof at);
+}
+
 static void call(const request *q, reply *r) {
   uint16_t *partners = (uint16_t *)(void *)words.at;
+  dzy_record *row_out = (dzy_record *)(void *)bytes.at, *row_in = (dzy_record *)(void *)bundle.at;
   switch (q->op) {
     case OP_MARK: put_counts(r, dzy_mark(FILES, bytes.at, bytes.length, partners, words.length / 2)); break;
     case OP_COUNT: put_counts(r, dzy_count(FILES)); break;
@@ -73,14 +115,20 @@ static void call(const request *q, reply *r) {
     case OP_WRITE_KEPT: put_length(r, dzy_write_kept(FILES, bytes.at, bytes.length)); break;
     case OP_CHECK_RULES: put_length(r, dzy_check_rules(rules.at, rules.length)); break;
     case OP_CHECK_BUNDLE: put_length(r, dzy_check_bundle(FILES)); break;
+    case OP_RECORDS: put_length(r, dzy_records(FILES, row_out, bytes.length / sizeof *row_out)); break;
+    case OP_WRITE_RECORDS:
+      put_length(r, dzy_write_records(rules.at, rules.length, row_in, bundle.length / sizeof *row_in, bytes.at, bytes.length));
+      break;
+    case OP_READER_START: put_start(r, dzy_reader_start(FILES)); break;
+    case OP_READER_NEXT: step(r); break;
     default: must(0);
   }
 }
 
 /* Whether nothing about the lent parts has changed, nor anything in the files. */
 static int intact(void) {
-  int around =
-      untouched_near(&rules) && untouched_near(&bundle) && untouched_near(&bytes) && untouched_near(&words);
+  int around = untouched_near(&rules) && untouched_near(&bundle) && untouched_near(&bytes) && untouched_near(&words) &&
+               untouched_near(&reader);
   return around && memcmp(rules.at, rules_copy, rules.length) == 0 && memcmp(bundle.at, bundle_copy, bundle.length) == 0;
 }
 
@@ -93,6 +141,7 @@ static void serve(const request *q, edge where) {
   read_into(&bundle, q->bundle, where);
   read_into(&bytes, q->bytes, where);
   read_into(&words, 2 * q->words, where);
+  place(&reader, sizeof(dzy_reader), where);
   memcpy(rules_copy, rules.at, rules.length);
   memcpy(bundle_copy, bundle.at, bundle.length);
   call(q, &r);
@@ -105,6 +154,7 @@ static void serve(const request *q, edge where) {
   wipe(&bundle);
   wipe(&bytes);
   wipe(&words);
+  wipe(&reader);
 }
 
 int main(void) {
@@ -113,6 +163,7 @@ int main(void) {
   bundle = map_room(MOST);
   bytes = map_room(MOST);
   words = map_room(MOST);
+  reader = map_room(sizeof(dzy_reader));
   for (edge where = AT_END; fread(&q, sizeof q, 1, stdin) == 1; where = where == AT_END ? AT_START : AT_END)
     serve(&q, where);
   return 0;

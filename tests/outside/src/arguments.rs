@@ -1,9 +1,11 @@
 //! The arguments of a call besides the two files: good ones, bad ones, very large ones, and rooms about as long as needed.
 
+use crate::cleaner::Record;
 use crate::codes::{NUMBER_MOST, SOME};
 use crate::dice::Dice;
-use crate::due::Due;
+use crate::due::{row_bytes, Due};
 use crate::judge::Question;
+use crate::make_rows::make_row;
 use crate::make_sites::Made;
 
 /// Arguments for one round over every entry point.
@@ -14,10 +16,14 @@ pub struct Arguments {
     pub fact: u64,
     pub has: Question,
     pub joins: Question,
+    pub row_room: usize,
+    pub row: Vec<Record>,
+    pub written_room: usize,
+    pub place: u64,
 }
 
 impl Arguments {
-    /// Rooms of just the right length, the last fact, and questions in range.
+    /// Rooms of just the right length, the last fact, questions in range, the facts' own row, and the first place after a short count.
     pub fn exact(due: &Due) -> Arguments {
         let facts = due.facts();
         Arguments {
@@ -27,19 +33,24 @@ impl Arguments {
             fact: facts.saturating_sub(1) as u64,
             has: Question::Has { code: SOME.into(), thing: 7 },
             joins: Question::Joins { code: 0, from: 9, to: 7 },
+            row_room: facts,
+            written_room: row_bytes(&due.row()).len(),
+            row: due.row(),
+            place: 1,
         }
     }
 
-    pub fn thrown(dice: &mut Dice, due: &Due, made: &Made) -> Arguments {
+    pub fn thrown(dice: &mut Dice, due: &Due, made: &Made, bundle: &[u8]) -> Arguments {
         let facts = due.facts();
-        Arguments {
-            marks_room: room(dice, facts),
-            partners_room: room(dice, facts),
-            out_room: room(dice, due.kept_length()),
-            fact: number_near(dice, facts as u64),
-            has: Question::Has { code: code(dice, &made.basics), thing: thing(dice, &made.things) },
-            joins: joins(dice, made),
-        }
+        let (marks_room, partners_room) = (room(dice, facts), room(dice, facts));
+        let out_room = room(dice, due.kept_length());
+        let fact = number_near(dice, facts as u64);
+        let has = Question::Has { code: code(dice, &made.basics), thing: thing(dice, &made.things) };
+        let joins = joins(dice, made);
+        let (row_room, row) = (room(dice, facts), make_row(dice, made));
+        let written_room = room(dice, row_bytes(&row).len());
+        let place = number_near(dice, bundle.len() as u64);
+        Arguments { marks_room, partners_room, out_room, fact, has, joins, row_room, row, written_room, place }
     }
 }
 

@@ -1,19 +1,20 @@
 //! One operation on one pair of files: called on guarded memory, and its answer and all memory held to what is due.
 
 use crate::arguments::Arguments;
-use crate::cleaner::{Answer, Asked, Cleaner, Counts, Length, Refusal};
-use crate::due::Due;
+use crate::cleaner::{Answer, Asked, Cleaner, Counts, Length, Record, Refusal, Start, Yield};
+use crate::due::{reader_step, Due};
 use crate::judge::Question;
-use crate::lent::{worn_bytes, worn_words, Lent};
+use crate::lent::{worn_bytes, worn_records, worn_words, Lent};
 use crate::site::hex;
 use std::fmt::Debug;
 
-/// What stands around lent bytes and lent 16-bit numbers.
+/// What stands around lent bytes, lent 16-bit numbers and lent records.
 const BYTE_GUARD: u8 = 0x5A;
 const WORD_GUARD: u16 = 0x5AA5;
+const RECORD_GUARD: Record = Record { predicate: 0x5AA5_5AA5, subject: 0xA55A_A55A, object: 0x5AA5_A55A };
 
 /// How many entry points there are.
-pub const OPERATIONS: usize = 8;
+pub const OPERATIONS: usize = 12;
 
 /// What the cleaner answered, or a difference told in one line.
 pub type Checked<T> = Result<T, String>;
@@ -37,6 +38,13 @@ fn same<T: Debug + PartialEq>(what: &str, got: T, due: T) -> Checked<T> {
     } else {
         Err(format!("{what}: got {got:?}, due {due:?}"))
     }
+}
+
+/// A row for the report of a difference, cut where it is long.
+fn told_row(row: &[Record]) -> String {
+    let numbers = |record: &Record| format!("({}, {}, {})", record.predicate, record.subject, record.object);
+    let told: Vec<String> = row.iter().take(16).map(numbers).collect();
+    format!("{} records {}", row.len(), told.join(" "))
 }
 
 fn row_written<T: Copy + Debug + PartialEq>(what: &str, lent: &Lent<T>, due: &[T]) -> Checked<()> {
@@ -111,6 +119,42 @@ impl<'a> Check<'a> {
         self.files_unchanged("check_bundle", same("check_bundle", got, self.due.check_bundle())?)
     }
 
+    pub fn records(&self, room: usize) -> Checked<Length> {
+        let mut due_row = worn_records(room);
+        let mut row = Lent::holding(&due_row, RECORD_GUARD);
+        let got = self.cleaner.records(self.rules.row(), self.bundle.row(), row.row_mut());
+        let got = same("records", got, self.due.records(&mut due_row))?;
+        row_written("row", &row, &due_row)?;
+        self.files_unchanged("records", got)
+    }
+
+    pub fn write_records(&self, row: &[Record], room: usize) -> Checked<Length> {
+        let mut due_out = worn_bytes(room);
+        let mut out = Lent::holding(&due_out, BYTE_GUARD);
+        let lent = Lent::holding(row, RECORD_GUARD);
+        let got = self.cleaner.write_records(self.rules.row(), lent.row(), out.row_mut());
+        let told = || format!("write_records into {room} of {}", told_row(row));
+        let got = same(&told(), got, self.due.write_records(row, &mut due_out))?;
+        row_written(&told(), &out, &due_out)?;
+        if !lent.unchanged() {
+            return Err(format!("{}: the row has changed", told()));
+        }
+        self.files_unchanged("write_records", got)
+    }
+
+    pub fn reader_start(&self) -> Checked<Start> {
+        let got = self.cleaner.reader_start(self.rules.row(), self.bundle.row());
+        self.files_unchanged("reader_start", same("reader_start", got, self.due.reader_start())?)
+    }
+
+    /// One step of a reader from a place; gives what it yields, and its place afterwards.
+    pub fn reader_next(&self, at: u64) -> Checked<(Yield, u64)> {
+        let mut next = at;
+        let yields = self.cleaner.reader_next(self.bundle.row(), &mut next);
+        let got = same(&format!("reader at {at}"), (yields, next), reader_step(self.bundle.row(), at))?;
+        self.files_unchanged("reader_next", got)
+    }
+
     /// Every entry point once, with these arguments; gives the refusal of each.
     pub fn every_operation(&self, arguments: &Arguments) -> Checked<[Refusal; OPERATIONS]> {
         Ok([
@@ -122,6 +166,10 @@ impl<'a> Check<'a> {
             self.question(arguments.has)?.refused,
             self.question(arguments.joins)?.refused,
             self.write_kept(arguments.out_room)?.refused,
+            self.records(arguments.row_room)?.refused,
+            self.write_records(&arguments.row, arguments.written_room)?.refused,
+            self.reader_start()?.refused,
+            self.reader_next(arguments.place)?.0.refused,
         ])
     }
 }

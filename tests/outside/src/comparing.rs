@@ -2,7 +2,7 @@
 
 use crate::brute::Worlds;
 use crate::check::{shown, Check, Checked};
-use crate::cleaner::Cleaner;
+use crate::cleaner::{Cleaner, Record};
 use crate::codes::{ALONE, DISPUTED, KEPT};
 use crate::dice::Dice;
 use crate::due::Due;
@@ -51,7 +51,8 @@ impl Trial {
         seen.disputed += site.judged.count(DISPUTED);
         let check = Check::new(cleaner, &due, &self.rules, &self.bundle);
         every_fact(&check, &due, &mut self.dice)?;
-        every_question(&check, &self.made, &mut self.dice, seen)
+        every_question(&check, &self.made, &mut self.dice, seen)?;
+        every_record(&check, &due, &self.bundle, &mut self.dice)
     }
 }
 
@@ -62,6 +63,23 @@ fn every_fact(check: &Check, due: &Due, dice: &mut Dice) -> Checked<()> {
     check.mark(due.facts() + dice.below(3), due.facts() + dice.below(3))?;
     check.write_kept(due.kept_length() + dice.below(3))?;
     (0..due.facts() as u64).try_for_each(|fact| check.ask(fact).map(|_| ()))
+}
+
+/// The row out, back in, and with the kept facts alone; and the reader from the first fact to the end and beyond.
+fn every_record(check: &Check, due: &Due, bundle: &[u8], dice: &mut Dice) -> Checked<()> {
+    let (row, kept) = (due.row(), due.kept_row());
+    check.records(due.facts() + dice.below(3))?;
+    check.write_records(&row, bundle.len() + dice.below(3))?;
+    check.write_records(&kept, due.kept_length())?;
+    let mut at = check.reader_start()?.at;
+    for fact in row.iter().map(Some).chain([None, None]) {
+        let (yields, next) = check.reader_next(at)?;
+        if (yields.found, yields.fact) != fact.map_or((0, Record::default()), |fact| (1, *fact)) {
+            return Err(format!("reader at {at}: got {yields:?}, the row has {fact:?}"));
+        }
+        at = next;
+    }
+    Ok(())
 }
 
 fn every_question(check: &Check, made: &Made, dice: &mut Dice, seen: &mut Seen) -> Checked<()> {

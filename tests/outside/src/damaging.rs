@@ -39,7 +39,7 @@ impl Trial {
     pub fn run(&mut self, cleaner: &dyn Cleaner, seen: &mut Seen) -> Checked<()> {
         let judge = Steps::default();
         let due = Due::of(&judge, &self.rules, &self.bundle);
-        let arguments = Arguments::thrown(&mut self.dice, &due, &self.made);
+        let arguments = Arguments::thrown(&mut self.dice, &due, &self.made, &self.bundle);
         let check = Check::new(cleaner, &due, &self.rules, &self.bundle);
         for refused in check.every_operation(&arguments)? {
             seen[refused.side as usize][refused.number as usize] += 1;

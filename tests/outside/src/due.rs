@@ -1,39 +1,43 @@
 //! What is due from each operation on given bytes: the plain reader's refusals, then a judge's marks and answers.
 
-use crate::cleaner::{Answer, Asked, Cleaner, Counts, Length, Refusal};
+use crate::cleaner::{Answer, Asked, Cleaner, Counts, Length, Record, Refusal, Start, Yield};
 use crate::codes::{ALONE, DISPUTED, KEPT};
 use crate::judge::{Judge, Judged, Question};
-use crate::plain;
-use crate::site::{bundle_bytes, Fact, RuleFile};
+use crate::plain::{self, Found};
+use crate::site::{bundle_bytes, row_of, Fact, RuleFile};
 
-/// An accepted site, judged.
+/// An accepted site, judged, and the place of its first fact.
 pub struct Cleaned {
     pub file: RuleFile,
     pub facts: Vec<Fact>,
     pub judged: Judged,
+    start: usize,
 }
 
 /// One pair of files, read and judged once; each operation's answer is taken from it.
 pub struct Due<'a> {
     judge: &'a dyn Judge,
-    rules: Result<u64, Refusal>,
+    rules: Result<RuleFile, Refusal>,
     pub site: Result<Cleaned, Refusal>,
 }
 
 impl<'a> Due<'a> {
     pub fn of(judge: &'a dyn Judge, rules: &[u8], bundle: &[u8]) -> Due<'a> {
-        let file = plain::read_rules(rules);
-        let count = file.as_ref().map(|file| file.rules.len() as u64).map_err(|&refusal| refusal);
-        let site = file.and_then(|file| {
+        let rules = plain::read_rules(rules);
+        let site = rules.clone().and_then(|file| {
             let facts = plain::read_bundle(&file, bundle)?;
             let judged = judge.judge(&file, &facts);
-            Ok(Cleaned { file, facts, judged })
+            Ok(Cleaned { file, facts, judged, start: plain::after_count(bundle)? })
         });
-        Due { judge, rules: count, site }
+        Due { judge, rules, site }
     }
 
     fn site(&self) -> Result<&Cleaned, Refusal> {
         self.site.as_ref().map_err(|&refusal| refusal)
+    }
+
+    fn file(&self) -> Result<&RuleFile, Refusal> {
+        self.rules.as_ref().map_err(|&refusal| refusal)
     }
 
     /// How many facts there are, 0 if the site is refused.
@@ -44,6 +48,16 @@ impl<'a> Due<'a> {
     /// How long the kept bundle is, 0 if the site is refused.
     pub fn kept_length(&self) -> usize {
         self.site.as_ref().map_or(0, |site| site.kept_bytes().len())
+    }
+
+    /// The facts as records, none if the site is refused.
+    pub fn row(&self) -> Vec<Record> {
+        self.site.as_ref().map_or(Vec::new(), |site| row_of(&site.facts))
+    }
+
+    /// The kept ones of them.
+    pub fn kept_row(&self) -> Vec<Record> {
+        self.site.as_ref().map_or(Vec::new(), |site| row_of(&site.judged.kept(&site.facts)))
     }
 
     pub fn mark(&self, marks: &mut [u8], partners: &mut [u16]) -> Counts {
@@ -92,12 +106,53 @@ impl<'a> Due<'a> {
     }
 
     pub fn check_rules(&self) -> Length {
-        length(self.rules)
+        length(self.file().map(|file| file.rules.len() as u64))
     }
 
     pub fn check_bundle(&self) -> Length {
         length(self.site().map(|site| site.facts.len() as u64))
     }
+
+    pub fn records(&self, row: &mut [Record]) -> Length {
+        length(self.site().and_then(|site| {
+            plain::check_room(row.len(), site.facts.len())?;
+            row[..site.facts.len()].copy_from_slice(&row_of(&site.facts));
+            Ok(site.facts.len() as u64)
+        }))
+    }
+
+    pub fn write_records(&self, row: &[Record], out: &mut [u8]) -> Length {
+        length(self.file().and_then(|file| {
+            plain::check_row(file, row)?;
+            let bundle = row_bytes(row);
+            plain::check_room(out.len(), bundle.len())?;
+            out[..bundle.len()].copy_from_slice(&bundle);
+            Ok(bundle.len() as u64)
+        }))
+    }
+
+    pub fn reader_start(&self) -> Start {
+        match self.site() {
+            Ok(site) => Start { at: site.start as u64, ..Start::default() },
+            Err(refused) => Start { refused, ..Start::default() },
+        }
+    }
+}
+
+/// The bundle of a row, whose records are taken as they are.
+pub fn row_bytes(row: &[Record]) -> Vec<u8> {
+    bundle_bytes(&row.iter().map(|&record| Fact::of(record)).collect::<Vec<_>>())
+}
+
+/// One step of a reader, and its place afterwards; the rules have no say in it.
+pub fn reader_step(bundle: &[u8], at: u64) -> (Yield, u64) {
+    let (found, next) = plain::read_at(bundle, at);
+    let yields = match found {
+        Ok(Found::Fact(fact)) => Yield { found: 1, fact: fact.record(), ..Yield::default() },
+        Ok(Found::Done) => Yield::default(),
+        Err(refused) => Yield { refused, ..Yield::default() },
+    };
+    (yields, next)
 }
 
 impl Cleaned {
@@ -157,5 +212,23 @@ impl<J: Judge> Cleaner for ByJudge<J> {
 
     fn check_bundle(&self, rules: &[u8], bundle: &[u8]) -> Length {
         Due::of(&self.0, rules, bundle).check_bundle()
+    }
+
+    fn records(&self, rules: &[u8], bundle: &[u8], row: &mut [Record]) -> Length {
+        Due::of(&self.0, rules, bundle).records(row)
+    }
+
+    fn write_records(&self, rules: &[u8], row: &[Record], out: &mut [u8]) -> Length {
+        Due::of(&self.0, rules, &[]).write_records(row, out)
+    }
+
+    fn reader_start(&self, rules: &[u8], bundle: &[u8]) -> Start {
+        Due::of(&self.0, rules, bundle).reader_start()
+    }
+
+    fn reader_next(&self, bundle: &[u8], at: &mut u64) -> Yield {
+        let (yields, next) = reader_step(bundle, *at);
+        *at = next;
+        yields
     }
 }

@@ -1,5 +1,7 @@
 //! Lent memory with guards on both sides, so that a write outside of it, or where none is due, is noticed.
 
+use crate::cleaner::Record;
+
 /// How many guard elements stand before and after a lent row.
 const GUARDS: usize = 16;
 
@@ -51,4 +53,12 @@ pub fn worn_bytes(length: usize) -> Vec<u8> {
 /// The same for a row of 16-bit numbers.
 pub fn worn_words(length: usize) -> Vec<u16> {
     (0..length).map(|place| 0xC3A5u16.wrapping_add((place * 7_919) as u16)).collect()
+}
+
+/// The same for a row of records.
+pub fn worn_records(length: usize) -> Vec<Record> {
+    let worn = |place: usize, by: u32| 0xC3A5_5A3Cu32.wrapping_add(place as u32 * 7_919).rotate_left(by);
+    (0..length)
+        .map(|place| Record { predicate: worn(place, 0), subject: worn(place, 9), object: worn(place, 20) })
+        .collect()
 }

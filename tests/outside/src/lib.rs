@@ -16,9 +16,11 @@ pub mod judge;
 pub mod lent;
 #[cfg(feature = "library")]
 pub mod library;
+pub mod make_rows;
 pub mod make_sites;
 pub mod plain;
 pub mod relay;
 pub mod site;
 pub mod steps;
 pub mod wrong;
+pub mod wrong_rows;

@@ -1,6 +1,6 @@
 //! A plain reader of rule files and bundles: what any bytes and arguments are refused with, in document 01's order.
 
-use crate::cleaner::Refusal;
+use crate::cleaner::{Record, Refusal};
 use crate::codes::*;
 use crate::judge::Question;
 use crate::site::{Fact, Rule, RuleFile};
@@ -167,6 +167,67 @@ fn predicate_declared(file: &RuleFile, code: u32) -> bool {
     } else {
         code - ROLE_PREDICATE < file.roles
     }
+}
+
+/// The place after the count of an accepted bundle.
+pub fn after_count(bytes: &[u8]) -> Result<usize, Refusal> {
+    let mut reader = Reader { bytes, at: 0, side: BUNDLE_SIDE };
+    reader.number()?;
+    Ok(reader.at)
+}
+
+/// What a reader finds.
+pub enum Found {
+    Fact(Fact),
+    Done,
+}
+
+/// What a reader of any bytes finds at any place, and its place afterwards.
+pub fn read_at(bytes: &[u8], at: u64) -> (Result<Found, Refusal>, u64) {
+    if at >= bytes.len() as u64 {
+        return (Ok(Found::Done), at);
+    }
+    let mut reader = Reader { bytes, at: at as usize, side: BUNDLE_SIDE };
+    match any_fact(&mut reader) {
+        Ok(fact) => (Ok(Found::Fact(fact)), reader.at as u64),
+        Err(refusal) => (Err(refusal), at),
+    }
+}
+
+/// A fact whose predicate need not be declared.
+fn any_fact(reader: &mut Reader) -> Result<Fact, Refusal> {
+    let predicate = reader.number()?.value;
+    let subject = reader.number()?.value;
+    let object = if predicate < ROLE_PREDICATE { 0 } else { reader.number()?.value };
+    Ok(Fact { predicate, subject, object })
+}
+
+/// The refusal of a row of records that is to be written: its count, then its first record at fault.
+pub fn check_row(file: &RuleFile, row: &[Record]) -> Result<(), Refusal> {
+    if row.len() > FACTS_MOST as usize {
+        return refuse_call(COUNT_OVER);
+    }
+    for (place, &record) in row.iter().enumerate() {
+        let before = place.checked_sub(1).map(|before| row[before]);
+        if let Some(number) = record_fault(file, record, before) {
+            return Err(Refusal { number, side: CALL_SIDE, place: place as u64 });
+        }
+    }
+    Ok(())
+}
+
+/// "each record's predicate (5), object of a concept (5), subject (3), object (3), order (8)"
+fn record_fault(file: &RuleFile, record: Record, before: Option<Record>) -> Option<u32> {
+    if !predicate_declared(file, record.predicate) {
+        return Some(UNDECLARED);
+    }
+    if record.predicate < ROLE_PREDICATE && record.object != 0 {
+        return Some(UNDECLARED);
+    }
+    if [record.subject, record.object].iter().any(|&thing| u64::from(thing) > NUMBER_MOST) {
+        return Some(TOO_LARGE);
+    }
+    before.filter(|before| *before >= record).map(|_| NOT_ABOVE)
 }
 
 fn refuse_call<T>(number: u32) -> Result<T, Refusal> {

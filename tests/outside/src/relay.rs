@@ -1,6 +1,6 @@
 //! The library through the relay, a program that links it and calls it on guarded memory, for machines that cannot link it themselves.
 
-use crate::cleaner::{Answer, Asked, Cleaner, Counts, Length, Refusal};
+use crate::cleaner::{Answer, Asked, Cleaner, Counts, Length, Record, Refusal, Start, Yield};
 use std::cell::RefCell;
 use std::io::{BufReader, Read, Write};
 use std::process::{Child, ChildStdin, ChildStdout, Command, Stdio};
@@ -14,8 +14,14 @@ const JOINS: u64 = 4;
 const WRITE_KEPT: u64 = 5;
 const CHECK_RULES: u64 = 6;
 const CHECK_BUNDLE: u64 = 7;
+const RECORDS: u64 = 8;
+const WRITE_RECORDS: u64 = 9;
+const READER_START: u64 = 10;
+const READER_NEXT: u64 = 11;
 /// How many numbers a reply begins with.
 const NUMBERS: usize = 8;
+/// How many bytes a record has.
+const RECORD: usize = 12;
 
 /// The running relay and the pipes to and from it.
 struct Pipes {
@@ -90,6 +96,22 @@ impl Relay {
     fn ask_only(&self, operation: u64, rules: &[u8], bundle: &[u8], arguments: [u64; 3]) -> Reply {
         self.call(Request { operation, rules, bundle, arguments, bytes: &mut [], words: &mut [] })
     }
+
+    /// A call that is lent bytes.
+    fn fill(&self, operation: u64, rules: &[u8], bundle: &[u8], bytes: &mut [u8]) -> Reply {
+        self.call(Request { operation, rules, bundle, arguments: [0; 3], bytes, words: &mut [] })
+    }
+}
+
+/// A row as the relay's memory holds it.
+fn record_bytes(row: &[Record]) -> Vec<u8> {
+    let numbers = row.iter().flat_map(|record| [record.predicate, record.subject, record.object]);
+    numbers.flat_map(u32::to_le_bytes).collect()
+}
+
+fn record(bytes: &[u8]) -> Record {
+    let number = |at: usize| u32::from_le_bytes([bytes[at], bytes[at + 1], bytes[at + 2], bytes[at + 3]]);
+    Record { predicate: number(0), subject: number(4), object: number(8) }
 }
 
 fn read_number(from: &mut impl Read) -> u64 {
@@ -142,14 +164,7 @@ impl Cleaner for Relay {
     }
 
     fn write_kept(&self, rules: &[u8], bundle: &[u8], out: &mut [u8]) -> Length {
-        length(self.call(Request {
-            operation: WRITE_KEPT,
-            rules,
-            bundle,
-            arguments: [0; 3],
-            bytes: out,
-            words: &mut [],
-        }))
+        length(self.fill(WRITE_KEPT, rules, bundle, out))
     }
 
     fn check_rules(&self, rules: &[u8]) -> Length {
@@ -158,5 +173,29 @@ impl Cleaner for Relay {
 
     fn check_bundle(&self, rules: &[u8], bundle: &[u8]) -> Length {
         length(self.ask_only(CHECK_BUNDLE, rules, bundle, [0; 3]))
+    }
+
+    fn records(&self, rules: &[u8], bundle: &[u8], row: &mut [Record]) -> Length {
+        let mut bytes = record_bytes(row);
+        let reply = self.fill(RECORDS, rules, bundle, &mut bytes);
+        row.iter_mut().zip(bytes.chunks_exact(RECORD)).for_each(|(slot, bytes)| *slot = record(bytes));
+        length(reply)
+    }
+
+    fn write_records(&self, rules: &[u8], row: &[Record], out: &mut [u8]) -> Length {
+        length(self.fill(WRITE_RECORDS, rules, &record_bytes(row), out))
+    }
+
+    fn reader_start(&self, rules: &[u8], bundle: &[u8]) -> Start {
+        let reply = self.ask_only(READER_START, rules, bundle, [0; 3]);
+        Start { refused: reply.refused, at: reply.values[0] }
+    }
+
+    fn reader_next(&self, bundle: &[u8], at: &mut u64) -> Yield {
+        let mut bytes = at.to_le_bytes();
+        let reply = self.fill(READER_NEXT, &[], bundle, &mut bytes);
+        *at = u64::from_le_bytes(bytes);
+        let [found, predicate, subject, object] = reply.values.map(|value| value as u32);
+        Yield { refused: reply.refused, found, fact: Record { predicate, subject, object } }
     }
 }

@@ -1,5 +1,6 @@
 //! A site as the tests hold it: rules and facts by their codes, and the tests' own writer of both files.
 
+use crate::cleaner::Record;
 use crate::codes::{CONCEPTS_DISJOINT, CONCEPT_INCLUDED, FUNCTIONAL, ROLES_DISJOINT, ROLE_INCLUDED, ROLE_PREDICATE};
 
 /// A rule, with its codes as the file has them.
@@ -67,6 +68,20 @@ impl Fact {
         }
         numbers
     }
+
+    pub fn record(self) -> Record {
+        Record { predicate: self.predicate, subject: self.subject, object: self.object }
+    }
+
+    /// The fact that a record is of, whatever its numbers.
+    pub fn of(record: Record) -> Fact {
+        Fact { predicate: record.predicate, subject: record.subject, object: record.object }
+    }
+}
+
+/// Facts as a row of records.
+pub fn row_of(facts: &[Fact]) -> Vec<Record> {
+    facts.iter().map(|fact| fact.record()).collect()
 }
 
 /// The numbers of a bundle, its count first.

@@ -1,11 +1,12 @@
 //! Wrong versions, made on purpose: the checks are of use only if each of these is noticed.
 
-use crate::cleaner::{Answer, Asked, Cleaner, Counts, Length, Refusal};
+use crate::cleaner::{Answer, Asked, Cleaner, Counts, Length, Record, Refusal, Start, Yield};
 use crate::codes::*;
 use crate::due::ByJudge;
 use crate::judge::{Judge, Judged, Question};
 use crate::site::{Fact, Rule, RuleFile};
 use crate::steps::Steps;
+use crate::wrong_rows::Misrows;
 
 /// A fault in the judging of an accepted site.
 #[derive(Clone, Copy, Debug)]
@@ -134,9 +135,10 @@ impl Miscalls {
     }
 }
 
-const RIGHT: ByJudge<Steps> = ByJudge(Steps { left_out: None });
+/// The operations as they should be.
+pub const RIGHT: ByJudge<Steps> = ByJudge(Steps { left_out: None });
 
-fn short() -> Refusal {
+pub fn short() -> Refusal {
     Refusal { number: TOO_SHORT, side: CALL_SIDE, place: 0 }
 }
 
@@ -194,6 +196,22 @@ impl Cleaner for Miscalls {
     fn check_bundle(&self, rules: &[u8], bundle: &[u8]) -> Length {
         RIGHT.check_bundle(rules, bundle)
     }
+
+    fn records(&self, rules: &[u8], bundle: &[u8], row: &mut [Record]) -> Length {
+        RIGHT.records(rules, bundle, row)
+    }
+
+    fn write_records(&self, rules: &[u8], row: &[Record], out: &mut [u8]) -> Length {
+        RIGHT.write_records(rules, row, out)
+    }
+
+    fn reader_start(&self, rules: &[u8], bundle: &[u8]) -> Start {
+        RIGHT.reader_start(rules, bundle)
+    }
+
+    fn reader_next(&self, bundle: &[u8], at: &mut u64) -> Yield {
+        RIGHT.reader_next(bundle, at)
+    }
 }
 
 /// The steps whose loss changes a mark or an answer: all but step 7, since a role fact has both directions as types.
@@ -206,6 +224,9 @@ pub fn every_wrong_version() -> Vec<(String, Box<dyn Cleaner>)> {
         all.push((format!("{fault:?}"), Box::new(ByJudge(fault))));
     }
     for fault in Miscalls::ALL {
+        all.push((format!("{fault:?}"), Box::new(fault)));
+    }
+    for fault in Misrows::ALL {
         all.push((format!("{fault:?}"), Box::new(fault)));
     }
     for step in STEPS_THAT_SHOW {
