@@ -18,7 +18,9 @@ try() {
 
 # shellcheck source=tests/reach.sh
 . tests/reach.sh
-need tests/x86.sh build yes "$built/boundary" tests/boundary/boundary.c "$archive"
+for program in boundary records; do
+  need tests/x86.sh build yes "$built/$program" "tests/boundary/$program.c" "$archive"
+done
 
 try "every wrong version is noticed" "$run/bite" --seed 1
 try "the steps agree with brute force over worlds" "$run/compare" --against steps --seed 2 --cases 20000
@@ -26,4 +28,5 @@ try "random sites agree with brute force over worlds" "$run/compare" "${against[
 try "damaged files and bad arguments are refused as document 01 says" "$run/damage" "${against[@]}" --seed 1 --cases 200000
 try "document 01's cases, truncations, changed bytes and limits" "$run/listed" "${against[@]}"
 try "the C boundary on guarded memory, under sanitizers" tests/x86.sh run "$built/boundary"
+try "rows of records and readers in any state at the C boundary" tests/x86.sh run "$built/records"
 exit "$failed"

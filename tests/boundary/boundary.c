@@ -1,10 +1,6 @@
 /* The C boundary: the worked site, damaged files and bad arguments through every entry point,
  * on memory that ends, or begins, at a page that cannot be touched. */
-#include "lent.h"
-
-#include <stddef.h>
-
-#include "dzyunagor.h"
+#include "held.h"
 
 /* The layout that other languages declare. */
 _Static_assert(sizeof(((dzy_counts *)0)->refused) == 16, "a refusal has 16 bytes");
@@ -15,74 +11,12 @@ _Static_assert(sizeof(dzy_counts) == 32 && offsetof(dzy_counts, disputed) == 28,
 _Static_assert(sizeof(dzy_asked) == 24 && offsetof(dzy_asked, partner) == 20, "one fact");
 _Static_assert(sizeof(dzy_answer) == 24 && offsetof(dzy_answer, fact) == 20, "an answer");
 _Static_assert(sizeof(dzy_length) == 24 && offsetof(dzy_length, length) == 16, "a length");
+_Static_assert(sizeof(dzy_record) == 12 && offsetof(dzy_record, object) == 8, "a record");
+_Static_assert(sizeof(dzy_reader) == 24 && offsetof(dzy_reader, at) == 16, "a reader");
+_Static_assert(sizeof(dzy_start) == 24 && offsetof(dzy_start, at) == 16, "a start");
+_Static_assert(sizeof(dzy_yield) == 32 && offsetof(dzy_yield, fact) == 20, "a yield");
 
-enum { NO_PARTNER = 65535, ROOM = 16, FILE_MOST = 64 };
-
-static const char *const R = "02 01 05 01 00 01 00 01 40 00 41 00 04 00 03 00 01";
-static const char *const F = "06 00 07 01 07 01 09 40 09 07 40 09 AC 02 40 0C 0C";
-
-static unsigned long checks, failures;
-
-static void hold(const char *what, const char *where, int holds) {
-  checks++;
-  if (!holds) {
-    failures++;
-    printf("boundary: FAILED %s: %s\n", what, where);
-  }
-}
-
-/* Whether an answer was refused so, and whether it was not refused. */
-#define REFUSED(answer, n, s, p) \
-  ((answer).refused.number == (n) && (answer).refused.side == (s) && (answer).refused.place == (p))
-#define ACCEPTED(answer) REFUSED(answer, 0, 0, 0)
-
-static lent lend(size_t length, edge where) {
-  lent l = map_room(length);
-  place(&l, length, where);
-  return l;
-}
-
-/* Lends bytes that cannot be written to. */
-static lent lend_file(const uint8_t *bytes, size_t length, edge where) {
-  lent l = lend(length, where);
-  if (length > 0) memcpy(l.at, bytes, length);
-  must(mprotect(l.mapped + l.page, l.inner, PROT_READ) == 0);
-  return l;
-}
-
-/* A file written in hex. */
-typedef struct {
-  uint8_t bytes[FILE_MOST];
-  size_t length;
-} file;
-
-static file read_hex(const char *hex) {
-  file f = {{0}, 0};
-  char *end;
-  for (unsigned long byte = strtoul(hex, &end, 16); end != hex; byte = strtoul(hex, &end, 16)) {
-    f.bytes[f.length++] = (uint8_t)byte;
-    hex = end;
-  }
-  return f;
-}
-
-/* Two lent files. */
-typedef struct {
-  lent rules, bundle;
-} site;
-
-static site lend_site(file rules, file bundle, edge where) {
-  site s = {lend_file(rules.bytes, rules.length, where), lend_file(bundle.bytes, bundle.length, where)};
-  return s;
-}
-
-static void give_back_site(site *s) {
-  give_back(&s->rules);
-  give_back(&s->bundle);
-}
-
-/* The first arguments of every call. */
-#define SITE(s) (s)->rules.at, (s)->rules.length, (s)->bundle.at, (s)->bundle.length
+enum { NO_PARTNER = 65535 };
 
 static int worked_counts(dzy_counts c) {
   return ACCEPTED(c) && c.facts == 6 && c.kept == 1 && c.alone == 1 && c.disputed == 4;
@@ -133,6 +67,61 @@ static void check_kept_refused(const site *s, size_t room, edge where, uint32_t 
   give_back(&out);
 }
 
+static const dzy_record worked_row[6] = {{0, 7, 0}, {1, 7, 0}, {1, 9, 0}, {64, 9, 7}, {64, 9, 300}, {64, 12, 12}};
+
+static void check_row(const site *s, size_t room, edge where) {
+  lent row = lend(room * sizeof(dzy_record), where);
+  dzy_length l = dzy_records(SITE(s), row_at(&row), room);
+  hold("records", "count", ACCEPTED(l) && l.length == 6);
+  hold("records", "row", same_rows(row_at(&row), worked_row, 6));
+  hold("records", "slots past the count", untouched_past(&row, sizeof worked_row));
+  give_back(&row);
+}
+
+static void check_row_refused(const site *s, size_t room, edge where, uint32_t number, uint32_t side, uint64_t at,
+                              const char *name) {
+  lent row = lend(room * sizeof(dzy_record), where);
+  dzy_length l = dzy_records(SITE(s), row_at(&row), room);
+  hold("records", name, REFUSED(l, number, side, at) && l.length == 0);
+  hold("records, nothing written", name, untouched_past(&row, 0));
+  give_back(&row);
+}
+
+/* The worked row written back: the worked bundle. */
+static void check_written(const site *s, size_t room, edge where) {
+  lent row = lend_file(worked_row, sizeof worked_row, where), out = lend(room, where);
+  dzy_length l = dzy_write_records(s->rules.at, s->rules.length, row_at(&row), 6, out.at, room);
+  hold("write_records", "length", ACCEPTED(l) && l.length == s->bundle.length);
+  hold("write_records", "bytes", memcmp(out.at, s->bundle.at, s->bundle.length) == 0);
+  hold("write_records", "past the length", untouched_past(&out, s->bundle.length));
+  give_back(&row);
+  give_back(&out);
+}
+
+/* A row that is refused, of a concept that is not declared and with every other fault, unless the rules are. */
+static void check_written_refused(const site *s, size_t records, size_t room, edge where, uint32_t number, uint32_t side,
+                                  uint64_t at, const char *name) {
+  static const dzy_record bad[2] = {{UINT32_MAX, UINT32_MAX, UINT32_MAX}, {2, 65536, 1}};
+  lent row = lend_file(bad, records * sizeof *bad, where), out = lend(room, where);
+  dzy_length l = dzy_write_records(s->rules.at, s->rules.length, row_at(&row), records, out.at, room);
+  hold("write_records", name, REFUSED(l, number, side, at) && l.length == 0);
+  hold("write_records, nothing written", name, untouched_past(&out, 0));
+  give_back(&row);
+  give_back(&out);
+}
+
+/* A reader from the start to the end of the worked bundle. */
+static void check_reader(const site *s) {
+  dzy_start start = dzy_reader_start(SITE(s));
+  hold("reader_start", "F", ACCEPTED(start) && start.at == 1);
+  dzy_reader reader = {s->bundle.at, s->bundle.length, (size_t)start.at};
+  for (size_t i = 0; i < 6; i++) {
+    dzy_yield y = dzy_reader_next(&reader);
+    hold("reader_next", "fact", ACCEPTED(y) && y.found == 1 && same_record(y.fact, worked_row[i]));
+  }
+  hold("reader_next", "place", reader.at == s->bundle.length);
+}
+
 static void check_facts(const site *s) {
   for (uint64_t fact = 0; fact < 6; fact++) {
     dzy_asked a = dzy_ask(SITE(s), fact);
@@ -170,6 +159,9 @@ static void worked_site(edge where) {
   hold("count", "R and F", worked_counts(dzy_count(SITE(&s))));
   for (size_t room = 6; room < ROOM; room++) check_marks(&s, room, where);
   for (size_t room = 3; room < ROOM; room++) check_kept(&s, room, where);
+  for (size_t room = 6; room < ROOM; room++) check_row(&s, room, where);
+  for (size_t room = 17; room < 17 + ROOM; room++) check_written(&s, room, where);
+  check_reader(&s);
   check_facts(&s);
   check_answers(&s);
   give_back_site(&s);
@@ -190,6 +182,7 @@ static void short_rooms(edge where) {
   for (size_t room = 0; room < 6; room++) {
     check_marks_refused(&s, room, 6, where, 9, 2, 0, "marks too short");
     check_marks_refused(&s, 6, room, where, 9, 2, 0, "partners too short");
+    check_row_refused(&s, room, where, 9, 2, 0, "row too short");
   }
   for (size_t room = 0; room < 3; room++) check_kept_refused(&s, room, where, 9, 2, 0, "out too short");
   give_back_site(&s);
@@ -238,6 +231,14 @@ static void refused_everywhere(file rules, file bundle, uint32_t number, uint32_
   check_marks_refused(&s, ROOM, ROOM, where, number, side, at, name);
   check_kept_refused(&s, 0, where, number, side, at, name);
   check_kept_refused(&s, ROOM, where, number, side, at, name);
+  check_row_refused(&s, 0, where, number, side, at, name);
+  check_row_refused(&s, ROOM, where, number, side, at, name);
+  if (side == 0) {
+    check_written_refused(&s, 0, 0, where, number, side, at, name);
+    check_written_refused(&s, 2, ROOM, where, number, side, at, name);
+  }
+  dzy_start start = dzy_reader_start(SITE(&s));
+  hold("reader_start", name, REFUSED(start, number, side, at) && start.at == 0);
   give_back_site(&s);
 }
 
@@ -316,6 +317,11 @@ static void check_changed(file rules, file bundle, edge where) {
   hold("changed", "partners past the count", c.facts <= ROOM && untouched_past(&partners, 2 * (size_t)c.facts));
   hold("changed", "counts", c.kept + c.alone + c.disputed == c.facts);
   hold("changed", "kept past the length", l.length <= ROOM && untouched_past(&out, (size_t)l.length));
+  lent row = lend(ROOM * sizeof(dzy_record), where);
+  l = dzy_records(SITE(&s), row_at(&row), ROOM);
+  hold("changed", "as many records as facts", l.length == c.facts && l.refused.number == c.refused.number);
+  hold("changed", "slots past the count", untouched_past(&row, (size_t)l.length * sizeof(dzy_record)));
+  give_back(&row);
   give_back(&marks);
   give_back(&partners);
   give_back(&out);
@@ -344,6 +350,5 @@ int main(void) {
     cut_files(where);
     changed_files(where);
   }
-  printf("boundary: %lu checks, %lu failed\n", checks, failures);
-  return failures == 0 ? 0 : 1;
+  return told("boundary");
 }

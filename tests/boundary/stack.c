@@ -22,6 +22,7 @@ static ucontext_t here, there;
 static file rules, bundle;
 static uint8_t marks[FACTS], out[FILE_MOST];
 static uint16_t partners[FACTS];
+static dzy_record row[FACTS];
 static uint32_t refused;
 static dzy_counts counts;
 static volatile uint64_t seen;
@@ -45,6 +46,19 @@ static void joins(void) { refused = dzy_joins(SITE, 0, 9, 7).refused.number; }
 
 static void write_kept(void) { refused = dzy_write_kept(SITE, out, FILE_MOST).refused.number; }
 
+static void records(void) { refused = dzy_records(SITE, row, FACTS).refused.number; }
+
+static void write_records(void) {
+  refused = dzy_write_records(rules.bytes, rules.length, row, counts.facts, out, FILE_MOST).refused.number;
+}
+
+static void reader_start(void) { refused = dzy_reader_start(SITE).refused.number; }
+
+static void reader_next(void) {
+  dzy_reader reader = {bundle.bytes, bundle.length, 1};
+  refused = dzy_reader_next(&reader).refused.number;
+}
+
 static void check_rules(void) { refused = dzy_check_rules(rules.bytes, rules.length).refused.number; }
 
 static void check_bundle(void) { refused = dzy_check_bundle(SITE).refused.number; }
@@ -55,6 +69,8 @@ static const struct {
 } calls[] = {{"dzy_mark", mark},       {"dzy_count", count},
              {"dzy_ask", ask},         {"dzy_has", has},
              {"dzy_joins", joins},     {"dzy_write_kept", write_kept},
+             {"dzy_records", records}, {"dzy_write_records", write_records},
+             {"dzy_reader_start", reader_start}, {"dzy_reader_next", reader_next},
              {"dzy_check_rules", check_rules}, {"dzy_check_bundle", check_bundle}};
 
 /* The bytes from the deepest word that the call changed up to the top of the stack. */

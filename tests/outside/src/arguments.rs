@@ -8,6 +8,9 @@ use crate::judge::Question;
 use crate::make_rows::make_row;
 use crate::make_sites::Made;
 
+const TWO_RECORDS: [Record; 2] =
+    [Record { predicate: 1, subject: 7, object: 0 }, Record { predicate: 64, subject: 9, object: 7 }];
+
 /// Arguments for one round over every entry point.
 pub struct Arguments {
     pub marks_room: usize,
@@ -23,9 +26,11 @@ pub struct Arguments {
 }
 
 impl Arguments {
-    /// Rooms of just the right length, the last fact, questions in range, the facts' own row, and the first place after a short count.
+    /// Rooms of just the right length, the last fact, questions in range, and the first place after a short count.
+    /// The row is of the facts, or one of two records where there are none.
     pub fn exact(due: &Due) -> Arguments {
         let facts = due.facts();
+        let row = if facts > 0 { due.row() } else { TWO_RECORDS.to_vec() };
         Arguments {
             marks_room: facts,
             partners_room: facts,
@@ -34,8 +39,8 @@ impl Arguments {
             has: Question::Has { code: SOME.into(), thing: 7 },
             joins: Question::Joins { code: 0, from: 9, to: 7 },
             row_room: facts,
-            written_room: row_bytes(&due.row()).len(),
-            row: due.row(),
+            written_room: row_bytes(&row).len(),
+            row,
             place: 1,
         }
     }

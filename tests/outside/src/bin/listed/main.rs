@@ -1,6 +1,7 @@
 //! The listed tests: document 01's own cases, every truncation and single-byte change of valid files, and all limits.
 
 mod limits;
+mod rows;
 mod swept;
 mod written;
 

@@ -1,5 +1,6 @@
 //! Document 01's cases with their answers written out by hand, and the order of its refusals.
 
+use crate::rows;
 use outside::cleaner::{Answer, Asked, Cleaner, Counts, Length, Refusal};
 use outside::codes::{BUNDLE_SIDE, CALL_SIDE, RULES_SIDE};
 use std::fmt::Debug;
@@ -55,12 +56,12 @@ pub fn bytes(hex: &str) -> Vec<u8> {
 }
 
 /// A cleaner, and how many answers have been held to it.
-struct Held<'a> {
-    cleaner: &'a dyn Cleaner,
+pub struct Held<'a> {
+    pub cleaner: &'a dyn Cleaner,
     answers: &'a mut u64,
 }
 
-type Told = Result<(), String>;
+pub type Told = Result<(), String>;
 
 pub fn run(cleaner: &dyn Cleaner, answers: &mut u64) -> Told {
     let mut held = Held { cleaner, answers };
@@ -70,10 +71,11 @@ pub fn run(cleaner: &dyn Cleaner, answers: &mut u64) -> Told {
     held.worked_kept()?;
     held.careful_errors()?;
     held.refusals()?;
-    held.order_of_arguments()
+    held.order_of_arguments()?;
+    rows::run(&mut held)
 }
 
-fn refused(number: u32, side: u32, place: u64) -> Refusal {
+pub fn refused(number: u32, side: u32, place: u64) -> Refusal {
     Refusal { number, side, place }
 }
 
@@ -89,7 +91,7 @@ fn refused_answer(number: u32, side: u32, place: u64) -> Answer {
     Answer { refused: refused(number, side, place), ..Answer::default() }
 }
 
-fn refused_length(number: u32, side: u32, place: u64) -> Length {
+pub fn refused_length(number: u32, side: u32, place: u64) -> Length {
     Length { refused: refused(number, side, place), length: 0 }
 }
 
@@ -98,7 +100,7 @@ fn asked(mark: u32, partner: u32) -> Asked {
 }
 
 impl Held<'_> {
-    fn hold<T: Debug + PartialEq>(&mut self, what: &str, got: T, written: T) -> Told {
+    pub fn hold<T: Debug + PartialEq>(&mut self, what: &str, got: T, written: T) -> Told {
         *self.answers += 1;
         if got == written {
             return Ok(());
