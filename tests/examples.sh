@@ -1,6 +1,6 @@
 #!/usr/bin/env bash
 # Compiles the header by itself, and the examples against the library's archive; runs them on the worked site and compares what they print.
-# The archive is for x86-64. On another processor the C example is compiled, linked and run by the toolchain's own compiler and emulator, and
+# The archive is for x86-64. On another processor the C examples are compiled, linked and run by the toolchain's own compiler and emulator, and
 # the Rust example, for want of Rust's own library, is only checked by its compiler.
 # With a path it takes that archive, one for this machine, and builds none. It skips where the archive cannot be built, and says so.
 set -u
@@ -12,23 +12,27 @@ trap 'rm -rf "$work"' EXIT
 bad=0
 emulator=()
 
+# the C examples, each with what it prints
+examples=(clean records)
+declare -A printed=([clean]=examples/worked-site/listing.txt [records]=examples/worked-site/records.txt)
+
 fail() {
   echo "examples: $1"
   bad=1
 }
 
-# an example's name and its program: it prints the worked site's listing
+# an example's name, its program, and the file of what it prints
 compare() {
   if ! "${emulator[@]}" "$2" >"$work/out"; then
     fail "$1 did not end well"
-  elif ! diff -u examples/worked-site/listing.txt "$work/out"; then
-    fail "$1 prints another listing"
+  elif ! diff -u "$3" "$work/out"; then
+    fail "$1 prints something else than $3"
   else
-    echo "examples: $1 prints the worked site's listing"
+    echo "examples: $1 prints $3"
   fi
 }
 
-# the C example as a program for x86-64, by the toolchain's own compiler, linker and C library
+# a C example as a program for x86-64, by the toolchain's own compiler, linker and C library
 link_across() {
   local kit tools libs
   kit=$(dirname "$(dirname "$(rt doc)")")
@@ -36,22 +40,28 @@ link_across() {
   libs=$tools/lib
   emulator=("$tools/bin/qemu-x86_64" "$libs/ld-linux-x86-64.so.2" --library-path "$libs")
   "$tools/bin/clang" --target=x86_64-linux-gnu "${strict[@]}" -fPIE -isystem "$(cc -print-file-name=include)" \
-    -isystem "/usr/include/$(cc -print-multiarch)" -isystem /usr/include -c examples/c/clean.c -o "$work/across.o" &&
-    "$tools/bin/ld.lld" -pie -dynamic-linker "$libs/ld-linux-x86-64.so.2" -o "$work/clean-c" "$libs/Scrt1.o" "$libs/crti.o" "$libs/crtbeginS.o" \
+    -isystem "/usr/include/$(cc -print-multiarch)" -isystem /usr/include -c "examples/c/$1.c" -o "$work/across.o" &&
+    "$tools/bin/ld.lld" -pie -dynamic-linker "$libs/ld-linux-x86-64.so.2" -o "$work/$1-c" "$libs/Scrt1.o" "$libs/crti.o" "$libs/crtbeginS.o" \
       "$work/across.o" "$archive" "$libs/libc.so.6" "$libs/libc_nonshared.a" "$libs/libgcc.a" "$libs/crtendS.o" "$libs/crtn.o"
 }
 
-# the header and both examples compile on any machine
+link_here() {
+  cc "$work/$1.o" "$archive" -o "$work/$1-c"
+}
+
+# the header and the examples compile on any machine
 cc "${strict[@]}" -c tests/header.c -o "$work/header.o" || fail "the header does not compile as C11"
-cc "${strict[@]}" -c examples/c/clean.c -o "$work/clean.o" || fail "examples/c/clean.c does not compile"
+for name in "${examples[@]}"; do
+  cc "${strict[@]}" -c "examples/c/$name.c" -o "$work/$name.o" || fail "examples/c/$name.c does not compile"
+done
 if command -v c++ >/dev/null 2>&1; then
   echo '#include "dzyunagor.h"' >"$work/header.cc"
   c++ -std=c++17 -Wall -Wextra -Wpedantic -Werror -Iinclude -c "$work/header.cc" -o "$work/header-cc.o" || fail "the header does not compile as C++"
 fi
 rustc --edition 2021 -D warnings --emit=metadata examples/rust/clean.rs -o "$work/clean.rmeta" || fail "examples/rust/clean.rs does not compile"
-[ "$bad" -eq 0 ] && echo "examples: the header and both examples compile"
+[ "$bad" -eq 0 ] && echo "examples: the header and the examples compile"
 
-across=no
+link=link_here
 if [ $# -eq 0 ]; then
   if ! command -v rt >/dev/null 2>&1; then
     echo "examples: not linked: the command rt is not on the PATH, so that the archive cannot be built"
@@ -66,25 +76,20 @@ if [ $# -eq 0 ]; then
     fail "rt staticlib dzyunagor does not build the archive"
     exit "$bad"
   fi
-  [ "$(uname -m)" = x86_64 ] || across=yes
+  [ "$(uname -m)" = x86_64 ] || link=link_across
 fi
 
-if [ "$across" = yes ]; then
-  if link_across; then
-    compare examples/c/clean.c "$work/clean-c"
+for name in "${examples[@]}"; do
+  if "$link" "$name"; then
+    compare "examples/c/$name.c" "$work/$name-c" "${printed[$name]}"
   else
-    fail "examples/c/clean.c does not link"
+    fail "examples/c/$name.c does not link"
   fi
+done
+if [ "$link" = link_across ]; then
   echo "examples: examples/rust/clean.rs is compiled and not linked: the archive is for x86-64, this machine is $(uname -m)"
-  exit "$bad"
-fi
-if cc "$work/clean.o" "$archive" -o "$work/clean-c"; then
-  compare examples/c/clean.c "$work/clean-c"
-else
-  fail "examples/c/clean.c does not link"
-fi
-if rustc --edition 2021 -O -D warnings examples/rust/clean.rs -o "$work/clean-rust" -C link-arg="$archive"; then
-  compare examples/rust/clean.rs "$work/clean-rust"
+elif rustc --edition 2021 -O -D warnings examples/rust/clean.rs -o "$work/clean-rust" -C link-arg="$archive"; then
+  compare examples/rust/clean.rs "$work/clean-rust" examples/worked-site/listing.txt
 else
   fail "examples/rust/clean.rs does not link"
 fi
