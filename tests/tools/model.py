@@ -223,6 +223,19 @@ def give_records(rules, bundle, room):
     return facts
 
 
+def reader_next(data, at):
+    """What a reader yields at a place, a record or None once it is done, and its place afterwards; a refusal leaves it where it is."""
+    if at >= len(data):
+        return None, at
+    try:
+        predicate, after = site.number_at(data, at, 1)
+        subject, after = site.number_at(data, after, 1)
+        object_, after = (0, after) if predicate < 64 else site.number_at(data, after, 1)
+    except site.Refused as refused:
+        raise Refusal(refused.number, refused.side, refused.place) from None
+    return (predicate, subject, object_), after
+
+
 def listing(rules, bundle):
     """What the program prints."""
     try:

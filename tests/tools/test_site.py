@@ -443,6 +443,29 @@ class Documents(unittest.TestCase):
                 seen.add(int(number))
         self.assertEqual(seen, {3, 5, 8, 9})
 
+    def test_examples_of_the_reader(self):
+        for bytes_, at, gives, then in rows(document("REFUSALS.md"), "## Examples of the reader"):
+            with self.subTest(bytes=bytes_, at=at):
+                if gives.startswith("refusal"):
+                    number, place = numbers(gives)
+                    with self.assertRaises(model.Refusal) as caught:
+                        model.reader_next(hex_of(bytes_), int(at))
+                    self.assertEqual((caught.exception.three, then), ((number, 1, place), at))
+                else:
+                    fact = None if gives == "done" else tuple(numbers(gives))
+                    self.assertEqual(model.reader_next(hex_of(bytes_), int(at)), (fact, int(then)))
+
+    def test_records_of_the_worked_site(self):
+        row = model.give_records(R, F, 6)
+        shown = " ".join(str(tuple(record)) for record in row) + "."
+        self.assertIn(f"The records of F: {shown}", document("FORMAT.md"))
+        self.assertIn(f"length 6, records {shown}", document("API.md"))
+        self.assertEqual(model.write_records(R, row, 17), F)
+        self.assertEqual(model.write_records(R, [(1, 9, 0)], 3), bytes.fromhex("01 01 09"))
+        steps = [(1, 3), (3, 5), (5, 7), (7, 10), (10, 14), (14, 17)]
+        self.assertEqual([model.reader_next(F, at) for at, _ in steps], [(record, then) for record, (_, then) in zip(row, steps)])
+        self.assertIn("at 1, 3, 5, 7, 10 and 14; then done at 17. From 12: (300, 64, 12), then at 16 refusal 1 on side 1 at 17.", document("API.md"))
+
     def test_examples_that_are_accepted(self):
         for call, rules, bundle, args, result in rows(document("REFUSALS.md"), "## Beside them, accepted"):
             with self.subTest(call=call, rules=rules, bundle=bundle, args=args):
@@ -527,7 +550,7 @@ class Documents(unittest.TestCase):
             told.update(zip(re.findall(r"\w+", names), [int(v.replace(",", "")) for v in re.split(r", ", values)]))
         self.assertEqual(told, defined)
         functions = re.findall(r"^dzy_\w+ (dzy_\w+)\(", header, re.M)
-        self.assertEqual(len(functions), 8)
+        self.assertEqual(len(functions), 12)
         self.assertEqual(re.findall(r"^### (dzy_\w+)\(", text, re.M), functions)
         calls = " ".join(row[0] for row in rows(document("REFUSALS.md"), "## Which call gives which"))
         self.assertEqual(sorted(re.findall(r"dzy_\w+", calls)), sorted(functions))
