@@ -1,7 +1,7 @@
 #!/usr/bin/env bash
 # Compiles the header by itself, and the examples against the library's archive; runs them on the worked site and compares what they print.
 # The archive is for x86-64. On another processor the C examples are compiled, linked and run by the toolchain's own compiler and emulator, and
-# the Rust example, for want of Rust's own library, is only checked by its compiler.
+# the Rust examples, for want of Rust's own library, are only checked by its compiler.
 # With a path it takes that archive, one for this machine, and builds none. It skips where the archive cannot be built, and says so.
 set -u
 cd "$(dirname "$0")/.." || exit 2
@@ -12,23 +12,34 @@ trap 'rm -rf "$work"' EXIT
 bad=0
 emulator=()
 
-# the C examples, each with what it prints
-examples=(clean records)
-declare -A printed=([clean]=examples/worked-site/listing.txt [records]=examples/worked-site/records.txt)
+# the examples of each language
+c=(clean records)
+rust=(clean records)
+
+# what an example prints
+printed() {
+  case $1 in
+  */clean.*) echo examples/worked-site/listing.txt ;;
+  *.c) echo examples/worked-site/records.txt ;;
+  *) echo examples/worked-site/row.txt ;;
+  esac
+}
 
 fail() {
   echo "examples: $1"
   bad=1
 }
 
-# an example's name, its program, and the file of what it prints
+# an example and its program
 compare() {
+  local due
+  due=$(printed "$1")
   if ! "${emulator[@]}" "$2" >"$work/out"; then
     fail "$1 did not end well"
-  elif ! diff -u "$3" "$work/out"; then
-    fail "$1 prints something else than $3"
+  elif ! diff -u "$due" "$work/out"; then
+    fail "$1 prints something else than $due"
   else
-    echo "examples: $1 prints $3"
+    echo "examples: $1 prints $due"
   fi
 }
 
@@ -45,23 +56,29 @@ link_across() {
       "$work/across.o" "$archive" "$libs/libc.so.6" "$libs/libc_nonshared.a" "$libs/libgcc.a" "$libs/crtendS.o" "$libs/crtn.o"
 }
 
-link_here() {
-  cc "$work/$1.o" "$archive" -o "$work/$1-c"
+link_c() {
+  if [ "$across" = yes ]; then
+    link_across "$1"
+  else
+    cc "$work/$1.o" "$archive" -o "$work/$1-c"
+  fi
 }
 
 # the header and the examples compile on any machine
 cc "${strict[@]}" -c tests/header.c -o "$work/header.o" || fail "the header does not compile as C11"
-for name in "${examples[@]}"; do
+for name in "${c[@]}"; do
   cc "${strict[@]}" -c "examples/c/$name.c" -o "$work/$name.o" || fail "examples/c/$name.c does not compile"
 done
 if command -v c++ >/dev/null 2>&1; then
   echo '#include "dzyunagor.h"' >"$work/header.cc"
   c++ -std=c++17 -Wall -Wextra -Wpedantic -Werror -Iinclude -c "$work/header.cc" -o "$work/header-cc.o" || fail "the header does not compile as C++"
 fi
-rustc --edition 2021 -D warnings --emit=metadata examples/rust/clean.rs -o "$work/clean.rmeta" || fail "examples/rust/clean.rs does not compile"
+for name in "${rust[@]}"; do
+  rustc --edition 2021 -D warnings --emit=metadata "examples/rust/$name.rs" -o "$work/$name.rmeta" || fail "examples/rust/$name.rs does not compile"
+done
 [ "$bad" -eq 0 ] && echo "examples: the header and the examples compile"
 
-link=link_here
+across=no
 if [ $# -eq 0 ]; then
   if ! command -v rt >/dev/null 2>&1; then
     echo "examples: not linked: the command rt is not on the PATH, so that the archive cannot be built"
@@ -76,21 +93,25 @@ if [ $# -eq 0 ]; then
     fail "rt staticlib dzyunagor does not build the archive"
     exit "$bad"
   fi
-  [ "$(uname -m)" = x86_64 ] || link=link_across
+  [ "$(uname -m)" = x86_64 ] || across=yes
 fi
 
-for name in "${examples[@]}"; do
-  if "$link" "$name"; then
-    compare "examples/c/$name.c" "$work/$name-c" "${printed[$name]}"
+for name in "${c[@]}"; do
+  if link_c "$name"; then
+    compare "examples/c/$name.c" "$work/$name-c"
   else
     fail "examples/c/$name.c does not link"
   fi
 done
-if [ "$link" = link_across ]; then
-  echo "examples: examples/rust/clean.rs is compiled and not linked: the archive is for x86-64, this machine is $(uname -m)"
-elif rustc --edition 2021 -O -D warnings examples/rust/clean.rs -o "$work/clean-rust" -C link-arg="$archive"; then
-  compare examples/rust/clean.rs "$work/clean-rust" examples/worked-site/listing.txt
-else
-  fail "examples/rust/clean.rs does not link"
+if [ "$across" = yes ]; then
+  echo "examples: those in Rust are compiled and not linked: the archive is for x86-64, this machine is $(uname -m)"
+  exit "$bad"
 fi
+for name in "${rust[@]}"; do
+  if rustc --edition 2021 -O -D warnings "examples/rust/$name.rs" -o "$work/$name-rust" -C link-arg="$archive"; then
+    compare "examples/rust/$name.rs" "$work/$name-rust"
+  else
+    fail "examples/rust/$name.rs does not link"
+  fi
+done
 exit "$bad"
