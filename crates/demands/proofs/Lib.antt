@@ -1,0 +1,5 @@
+pub mod Demands
+pub mod FirstDemand
+pub mod SecondDemand
+pub mod ThirdDemand
+pub mod Written

@@ -1,0 +1,71 @@
+-- Demand 2: both round trips, the same through rows of records, and that the marks add up.
+use Prim.Native.Nat.{ℕ, _+_, _≤_}
+use mathlib.Core.Path.{_≡_, refl, sym, ap, _∙_}
+use mathlib.Core.List.{List, _++_}
+use lib.ListN.{length, take, drop}
+use borrow.Author.Tests.{le-leb}
+use Rattle.number.specs.Answer.{Answer, over, laid}
+use Rattle.number.specs.Answer.Answer.{gives, refuses}
+use Rattle.number.proofs.Answers.{went, given-once}
+use Rattle.number.proofs.Laws.{Bytes}
+use Rattle.rules.specs.RuleFile.{checkRules}
+use Rattle.bundle.specs.Bundle.{readBundle}
+use Rattle.bundle.specs.Records.{roomFor}
+use Rattle.bundle.proofs.RoundTrips.{written-read, read-again}
+use Rattle.records.specs.Rows.{handRecords, rowAfter, writeRow}
+use Rattle.records.specs.declared.record.Record.{Record}
+use Rattle.records.proofs.OfRows.{out-and-back}
+use Rattle.clean.specs.Types.{itself}
+use Rattle.clean.specs.Operations.{given, counting}
+use Rattle.clean.specs.declared.answers.Counts.{Counts}
+use Rattle.clean.proofs.OfMarks.{marks-add-up}
+use Rattle.dzyunagor.specs.Promises.{Count, Records, WriteRecords}
+use Rattle.dzyunagor.specs.Shown.{shownCounts, shownLength}
+use Rattle.dzyunagor.specs.declared.shapes.DzyCounts.{DzyCounts}
+use Rattle.dzyunagor.specs.declared.shapes.DzyLength.{DzyLength}
+use Rattle.dzyunagor.proofs.NeverZero.{records-tells}
+use Rattle.demands.specs.Demands.{RoundTrips}
+use Rattle.demands.proofs.Written.{take-front, laid-front}
+
+-- records handed out: the row's front, and the answer's length
+handed-front : (row row′ records : List Record) (r : DzyLength) (a : Answer (List Record)) → a ≡ gives records → row′ ≡ rowAfter row a → r ≡ shownLength (over length a) → take (r .length) row′ ≡ records
+handed-front row row′ records r a is memory answer =
+    let front : row′ ≡ records ++ drop (length records) row = memory ∙ ap (rowAfter row) is in
+    let long : r .length ≡ length records = ap (λ (l : DzyLength). l .length) (answer ∙ ap (λ (b : Answer (List Record)). shownLength (over length b)) is) in
+    ap (λ (n : ℕ). take n row′) long ∙ ap (take (length records)) front ∙ take-front records (drop (length records) row)
+
+-- a bundle for which there is room is written
+roomy : (room : ℕ) (bundle : List ℕ) → length bundle ≤ room → roomFor room bundle ≡ gives bundle
+unfolding roomFor
+roomy room bundle fits = rw (le-leb (length bundle) room fits)
+
+records-back : (rules bundle : List ℕ) → Bytes bundle → (row row′ : List Record) (r : DzyLength) → Records rules bundle row r row′ → r .refused .number ≡ 0
+    → (out out′ : List ℕ) (w : DzyLength) → WriteRecords rules (take (r .length) row′) out w out′ → length bundle ≤ length out
+    → out′ ≡ bundle ++ drop (length bundle) out
+records-back rules bundle bytes row row′ r p plain out out′ w q fits =
+    let g = records-tells rules bundle row row′ r p .given plain in
+    let same : take (r .length) row′ ≡ g .value = handed-front row row′ (g .value) r (handRecords rules bundle (length row)) (g .is) (p .memory) (p .answer) in
+    let written : writeRow rules (length out) (take (r .length) row′) ≡ gives bundle =
+    ap (writeRow rules (length out)) same ∙ out-and-back rules bundle (length row) (g .value) bytes (g .is) (length out) ∙ roomy (length out) bundle fits in
+    q .memory ∙ ap (laid out 0) written ∙ laid-front out bundle fits
+
+-- the counts of an answer that is given, and the zeros of a refusal
+shown-sum : (a : Answer Counts) → ((c : Counts) → a ≡ gives c → c .facts ≡ c .kept + c .alone + c .disputed)
+    → shownCounts a .facts ≡ shownCounts a .kept + shownCounts a .alone + shownCounts a .disputed
+shown-sum (gives c) sums = sums c refl
+shown-sum (refuses r) sums = refl
+
+given-sum : (rules bundle : List ℕ) (c : Counts) → counting rules bundle ≡ gives c → c .facts ≡ c .kept + c .alone + c .disputed
+unfolding counting given
+given-sum rules bundle c e =
+    let w = went (checkRules rules) _ e in
+    let v = went (readBundle (w .value) bundle) _ (w .rest) in
+    rw (sym (given-once (v .rest))) (marks-add-up itself _ (v .value))
+
+sums : (rules bundle : List ℕ) (r : DzyCounts) → Count rules bundle r → r .facts ≡ r .kept + r .alone + r .disputed
+unfolding Count
+sums rules bundle r p = rw p (shown-sum (counting rules bundle) (given-sum rules bundle))
+
+pub round-trips : RoundTrips
+round-trips =
+    record { written-read = written-read; read-written = λ s bytes h facts e. sym (read-again s bytes h facts e); records-back = records-back; marks-add-up = sums }
