@@ -1,5 +1,6 @@
 pub mod Demands
 pub mod FirstDemand
+pub mod ReaderYields
 pub mod SecondDemand
 pub mod ThirdDemand
 pub mod Written

@@ -1,20 +1,24 @@
 -- Demand 2: both round trips, the same through rows of records, and that the marks add up.
 use Prim.Native.Nat.{ℕ, _+_, _≤_}
-use mathlib.Core.Path.{_≡_, refl, sym, ap, _∙_}
-use mathlib.Core.List.{List, _++_}
+use mathlib.Core.Path.{_≡_, refl, sym, ap, subst, _∙_}
+use mathlib.Core.Bool.{cond}
+use mathlib.Core.List.{List, _++_, map}
+use lib.Dec.{leb}
+use Rattle.site.specs.Limits.{mostFacts}
 use lib.ListN.{length, take, drop}
-use borrow.Author.Tests.{le-leb}
-use Rattle.number.specs.Answer.{Answer, over, laid}
+use borrow.Author.Tests.{le-leb, leb-true}
+use Rattle.number.specs.Answer.{Answer, refusal, over, laid}
 use Rattle.number.specs.Answer.Answer.{gives, refuses}
-use Rattle.number.proofs.Answers.{went, given-once}
+use Rattle.number.proofs.Answers.{went, passed, given-once}
 use Rattle.number.proofs.Laws.{Bytes}
 use Rattle.rules.specs.RuleFile.{checkRules}
-use Rattle.bundle.specs.Bundle.{readBundle}
-use Rattle.bundle.specs.Records.{roomFor}
+use Rattle.bundle.specs.Bundle.{readBundle, bundleOf}
+use Rattle.bundle.specs.Bundle.Last.{none}
+use Rattle.bundle.specs.Records.{roomFor, recordsFrom, planRecords}
 use Rattle.bundle.proofs.RoundTrips.{written-read, read-again}
-use Rattle.records.specs.Rows.{handRecords, rowAfter, writeRow}
+use Rattle.records.specs.Rows.{factOf, handRecords, rowAfter, writeRow}
 use Rattle.records.specs.declared.record.Record.{Record}
-use Rattle.records.proofs.OfRows.{out-and-back}
+use Rattle.records.proofs.OfRows.{out-and-back, in-and-out}
 use Rattle.clean.specs.Types.{itself}
 use Rattle.clean.specs.Operations.{given, counting}
 use Rattle.clean.specs.declared.answers.Counts.{Counts}
@@ -23,9 +27,9 @@ use Rattle.dzyunagor.specs.Promises.{Count, Records, WriteRecords}
 use Rattle.dzyunagor.specs.Shown.{shownCounts, shownLength}
 use Rattle.dzyunagor.specs.declared.shapes.DzyCounts.{DzyCounts}
 use Rattle.dzyunagor.specs.declared.shapes.DzyLength.{DzyLength}
-use Rattle.dzyunagor.proofs.NeverZero.{records-tells}
+use Rattle.dzyunagor.proofs.NeverZero.{records-tells, write-records-tells}
 use Rattle.demands.specs.Demands.{RoundTrips}
-use Rattle.demands.proofs.Written.{take-front, laid-front}
+use Rattle.demands.proofs.Written.{take-front, laid-front, laid-taken}
 
 -- records handed out: the row's front, and the answer's length
 handed-front : (row row′ records : List Record) (r : DzyLength) (a : Answer (List Record)) → a ≡ gives records → row′ ≡ rowAfter row a → r ≡ shownLength (over length a) → take (r .length) row′ ≡ records
@@ -49,6 +53,27 @@ records-back rules bundle bytes row row′ r p plain out out′ w q fits =
     ap (writeRow rules (length out)) same ∙ out-and-back rules bundle (length row) (g .value) bytes (g .is) (length out) ∙ roomy (length out) bundle fits in
     q .memory ∙ ap (laid out 0) written ∙ laid-front out bundle fits
 
+-- what was written fitted its output
+fitted : (rules : List ℕ) (row : List Record) (room : ℕ) (bytes : List ℕ) → writeRow rules room row ≡ gives bytes → length bytes ≤ room
+unfolding writeRow planRecords roomFor
+fitted rules row room bytes e =
+    let w = went (checkRules rules) _ e in
+    let facts = map factOf row in
+    let v = went (cond (leb (length facts) mostFacts) (recordsFrom (w .value) none 0 facts) (refuses (refusal 4 2 0))) _ (w .rest) in
+    let t = passed (leb (length (bundleOf facts)) room) (gives (bundleOf facts)) (refusal 9 2 0) (v .rest) in
+    subst (λ (l : List ℕ). length l ≤ room) (given-once (t .answer)) (leb-true (length (bundleOf facts)) room (t .test))
+
+rows-back : (rules : List ℕ) (row : List Record) (out out′ : List ℕ) (w : DzyLength) → WriteRecords rules row out w out′ → w .refused .number ≡ 0
+    → (lent lent′ : List Record) (r : DzyLength) → Records rules (take (w .length) out′) lent r lent′ → length row ≤ length lent
+    → lent′ ≡ row ++ drop (length row) lent
+rows-back rules row out out′ w p plain lent lent′ r q fits =
+    let g = write-records-tells rules row out out′ w p .given plain in
+    let long : w .length ≡ length (g .value) = ap (λ (l : DzyLength). l .length) (p .answer ∙ ap (λ (b : Answer (List ℕ)). shownLength (over length b)) (g .is)) in
+    let front : take (w .length) out′ ≡ g .value =
+    ap (λ (n : ℕ). take n out′) long ∙ ap (take (length (g .value))) (p .memory ∙ ap (laid out 0) (g .is)) ∙ laid-taken out (g .value) (fitted rules row (length out) (g .value) (g .is)) in
+    q .memory ∙ ap (λ (l : List ℕ). rowAfter lent (handRecords rules l (length lent))) front
+    ∙ ap (rowAfter lent) (in-and-out rules (g .value) (length out) row (g .is) (length lent) fits)
+
 -- the counts of an answer that is given, and the zeros of a refusal
 shown-sum : (a : Answer Counts) → ((c : Counts) → a ≡ gives c → c .facts ≡ c .kept + c .alone + c .disputed)
     → shownCounts a .facts ≡ shownCounts a .kept + shownCounts a .alone + shownCounts a .disputed
@@ -68,4 +93,4 @@ sums rules bundle r p = rw p (shown-sum (counting rules bundle) (given-sum rules
 
 pub round-trips : RoundTrips
 round-trips =
-    record { written-read = written-read; read-written = λ s bytes h facts e. sym (read-again s bytes h facts e); records-back = records-back; marks-add-up = sums }
+    record { written-read = written-read; read-written = λ s bytes h facts e. sym (read-again s bytes h facts e); records-back = records-back; rows-back = rows-back; marks-add-up = sums }

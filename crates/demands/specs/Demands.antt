@@ -4,8 +4,9 @@
 use Prim.Native.Nat.{ℕ, _+_, _≤_, _<_}
 use mathlib.Core.Path.{_≡_}
 use mathlib.Core.Logic.{_↔_}
-use mathlib.Core.List.{List, _++_}
-use lib.ListN.{length, getD, take, drop}
+use mathlib.Core.List.{List, [], _∷_, _++_, map}
+use lib.ListN.{length, getD, take, drop, replicate}
+use denote.Ref.{now}
 use Rattle.number.specs.Answer.Answer.{gives}
 use Rattle.number.proofs.Laws.{Bytes}
 use Rattle.site.specs.Codes.{conceptOf, roleOf}
@@ -16,6 +17,7 @@ use Rattle.rules.specs.RuleFile.{checkRules, siteOf}
 use Rattle.rules.specs.declared.head.Head.{Head}
 use Rattle.bundle.specs.Bundle.{readBundle, bundleOf}
 use Rattle.bundle.specs.Lawful.{LawfulFacts}
+use Rattle.records.specs.Reading.Found.{fact, done}
 use Rattle.records.specs.declared.record.Record.{Record}
 use Rattle.records.specs.declared.reader.Reader.{Reader}
 use Rattle.follows.specs.Tables.{followsOf}
@@ -23,6 +25,7 @@ use Rattle.clean.specs.Types.{itself}
 use Rattle.clean.specs.Marks.{kept}
 use Rattle.worlds.specs.Worlds.{Is, Joins as Joined, Consistent, LeftOut, Always}
 use Rattle.dzyunagor.specs.Promises.{CheckRules, CheckBundle, Mark, Count, Ask, Has, Joins, WriteKept, Records, WriteRecords, ReaderStart, ReaderNext}
+use Rattle.dzyunagor.specs.Shown.{shownFound}
 use Rattle.dzyunagor.specs.declared.shapes.DzyCounts.{DzyCounts}
 use Rattle.dzyunagor.specs.declared.shapes.DzyAsked.{DzyAsked}
 use Rattle.dzyunagor.specs.declared.shapes.DzyAnswer.{DzyAnswer}
@@ -59,20 +62,6 @@ pub record WritesNothing : Type 0 where
   pub write-records : (rules : List ℕ) (row : List Record) (out out′ : List ℕ) (r : DzyLength) → WriteRecords rules row out r out′ → 1 ≤ r .refused .number → out′ ≡ out
   pub reader-next : (before left : Reader) (r : DzyYield) → ReaderNext before r left → 1 ≤ r .refused .number → left ≡ before
 
--- ---- Demand 2: "each ascending list of declared facts has one bundle (both round trips, to the byte)"
-pub record RoundTrips : Type 0 where
-  -- what is written for such a list reads back as it, and no other bytes do
-  pub written-read : (h : Head) → h .roles ≤ mostRoles → (facts : List Fact) → LawfulFacts h facts → readBundle h (bundleOf facts) ≡ gives facts
-  pub read-written : (s : List ℕ) → Bytes s → (h : Head) (facts : List Fact) → readBundle h s ≡ gives facts → s ≡ bundleOf facts
-  -- records handed out, then written back, are the same bundle
-  pub records-back : (rules bundle : List ℕ) → Bytes bundle → (row row′ : List Record) (r : DzyLength) → Records rules bundle row r row′ → r .refused .number ≡ 0
-      → (out out′ : List ℕ) (w : DzyLength) → WriteRecords rules (take (r .length) row′) out w out′ → length bundle ≤ length out
-      → out′ ≡ bundle ++ drop (length bundle) out
-  -- "the three marks add up to the facts"
-  pub marks-add-up : (rules bundle : List ℕ) (r : DzyCounts) → Count rules bundle r → r .facts ≡ r .kept + r .alone + r .disputed
-
--- ---- Demand 3: worlds decide
-
 -- files that were read: their head, rules and facts
 pub record BothRead (rules bundle : List ℕ) : Type 0 where
   pub head : Head
@@ -86,6 +75,35 @@ module _ {rules bundle : List ℕ} (a : BothRead rules bundle) where
 
   abbrev pub keptFacts : List Fact
   keptFacts = kept itself (followsOf site) (a .facts)
+
+-- ---- Demand 2: "each ascending list of declared facts has one bundle (both round trips, to the byte)"
+pub record RoundTrips : Type 0 where
+  -- what is written for such a list reads back as it, and no other bytes do
+  pub written-read : (h : Head) → h .roles ≤ mostRoles → (facts : List Fact) → LawfulFacts h facts → readBundle h (bundleOf facts) ≡ gives facts
+  pub read-written : (s : List ℕ) → Bytes s → (h : Head) (facts : List Fact) → readBundle h s ≡ gives facts → s ≡ bundleOf facts
+  -- records handed out, then written back, are the same bundle
+  pub records-back : (rules bundle : List ℕ) → Bytes bundle → (row row′ : List Record) (r : DzyLength) → Records rules bundle row r row′ → r .refused .number ≡ 0
+      → (out out′ : List ℕ) (w : DzyLength) → WriteRecords rules (take (r .length) row′) out w out′ → length bundle ≤ length out
+      → out′ ≡ bundle ++ drop (length bundle) out
+  -- a row that was written is handed out as itself
+  pub rows-back : (rules : List ℕ) (row : List Record) (out out′ : List ℕ) (w : DzyLength) → WriteRecords rules row out w out′ → w .refused .number ≡ 0
+      → (lent lent′ : List Record) (r : DzyLength) → Records rules (take (w .length) out′) lent r lent′ → length row ≤ length lent
+      → lent′ ≡ row ++ drop (length row) lent
+  -- "the three marks add up to the facts"
+  pub marks-add-up : (rules bundle : List ℕ) (r : DzyCounts) → Count rules bundle r → r .facts ≡ r .kept + r .alone + r .disputed
+
+-- so many steps of a reader, each as its promise says: what they yield, and the reader afterwards
+pub data Walked : Reader → List DzyYield → Reader → Type 0 where
+  stop : {here : Reader} → Walked here [] here
+  step : {here next end : Reader} {y : DzyYield} {ys : List DzyYield} → ReaderNext here y next → Walked next ys end → Walked here (y ∷ ys) end
+
+-- "It starts on an accepted bundle and yields its facts, in order"; then it is done, however often it is asked
+pub record ReaderYields : Type 0 where
+  pub yields-all : (rules bundle : List ℕ) (r : DzyStart) → ReaderStart rules bundle r → (a : BothRead rules bundle)
+      → (first end : Reader) → now (first .src) ≡ bundle → first .at ≡ r .at → (ys : List DzyYield) → Walked first ys end
+      → (k : ℕ) → length ys ≡ length (a .facts) + k → ys ≡ map (λ f. shownFound (fact f)) (a .facts) ++ replicate k (shownFound done)
+
+-- ---- Demand 3: worlds decide
 
 pub record WorldsDecide : Type 1 where
   -- an answer that is no refusal is about files that were read
@@ -107,4 +125,5 @@ pub record Demands : Type 1 where
   pub one-answer : OneAnswer
   pub writes-nothing : WritesNothing
   pub round-trips : RoundTrips
+  pub reader-yields : ReaderYields
   pub worlds-decide : WorldsDecide
