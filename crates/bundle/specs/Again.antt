@@ -17,6 +17,7 @@ use Rattle.bundle.specs.declared.writing.BundleWrote.{BundleWrote}
 unfoldable pub planAgain : Head → List ℕ → ℕ → Answer (List ℕ)
 planAgain h s room = readBundle h s then λ facts. roomFor room (bundleOf facts)
 
+-- the answer, and the lent memory afterwards
 pub record WritesAgain (h : Head) (s out : List ℕ) (r : BundleWrote) (out′ : List ℕ) : Type 0 where
   pub answer : wroteTold r ≡ over length (planAgain h s (length out))
   pub memory : out′ ≡ laid out 0 (planAgain h s (length out))

@@ -48,6 +48,7 @@ unfoldable pub factsIn : List ℕ → ℕ → ℕ → List Fact
 factsIn s zero at = []
 factsIn s (suc n) at = onward (factAt (λ _. true) s at) (λ f. f .value ∷ factsIn s n (f .next))
 
+-- "A code above its kind's range is undeclared", for a fact's predicate
 abbrev pub predicateKnown : Head → ℕ → Bool
 predicateKnown h = predicateDeclared (h .concepts) (h .roles)
 
@@ -59,9 +60,11 @@ checkBundle h s =
     endAt s end 1 then λ _.
     gives (record { count = n .value; start = n .next })
 
+-- the facts that an accepted bundle's head and bytes say
 abbrev pub factsOf : List ℕ → Facts → List Fact
 factsOf s b = factsIn s (b .count) (b .start)
 
+-- the whole reading, with the facts
 unfoldable pub readBundle : Head → List ℕ → Answer (List Fact)
 readBundle h s = over (factsOf s) (checkBundle h s)
 
@@ -69,5 +72,6 @@ readBundle h s = over (factsOf s) (checkBundle h s)
 unfoldable pub factBytes : Fact → List ℕ
 factBytes f = bytesOf (f .predicate) ++ (bytesOf (f .subject) ++ cond (ofConcept f) [] (bytesOf (f .object)))
 
+-- "Bundle: number of facts (..), then the facts"
 unfoldable pub bundleOf : List Fact → List ℕ
 bundleOf facts = bytesOf (length facts) ++ each factBytes facts

@@ -23,6 +23,7 @@ pub data LawfulFrom (h : Head) : Last → List Fact → Type 0 where
   done : {last : Last} → LawfulFrom h last []
   next : {last : Last} {f : Fact} {fs : List Fact} → LawfulFact h f → ascends last f ≡ true → LawfulFrom h (after f) fs → LawfulFrom h last (f ∷ fs)
 
+-- "number of facts (0 to 4,096)", each lawful and above the one before it
 pub record LawfulFacts (h : Head) (facts : List Fact) : Type 0 where
   pub few : length facts ≤ mostFacts
   pub lawful : LawfulFrom h none facts

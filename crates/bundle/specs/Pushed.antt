@@ -107,6 +107,7 @@ unfoldable pub stateAfter : Head → ℕ → Writing → List Fact → Writing
 stateAfter h room w [] = w
 stateAfter h room w (f ∷ fs) = stateAfter h room (placed room (judged h w f) f) fs
 
+-- the lent memory after so many records
 unfoldable pub memoryAfter : Head → List ℕ → Writing → List Fact → List ℕ
 memoryAfter h out w [] = out
 memoryAfter h out w (f ∷ fs) = memoryAfter h (storedBy out (judged h w f) f) (placed (length out) (judged h w f) f) fs
@@ -119,10 +120,12 @@ closed w = cond (ltb 0 (w .fault)) w (stopped w 9 0)
 unfoldable pub secondStart : ℕ → ℕ → Writing → Writing
 secondStart facts room first = cond (settled first) (closed first) (startOf facts room true)
 
+-- the count's bytes, stored where the first pass found no fault and room
 unfoldable pub countStored : List ℕ → ℕ → Writing → List ℕ
 countStored out facts first =
     cond (settled first) out (cond (settled (startOf facts (length out) true)) out (sets out 0 (bytesOf facts)))
 
+-- between the passes: the state, and the lent memory
 pub record Begins (out : List ℕ) (facts : ℕ) (first r : Writing) (out′ : List ℕ) : Type 0 where
   pub state : r ≡ secondStart facts (length out) first
   pub memory : out′ ≡ countStored out facts first
@@ -140,9 +143,11 @@ answerOf w = cond (ltb 0 (w .fault)) (refuses (refusal (w .fault) 2 (w .place)))
 abbrev pub firstState : Head → ℕ → List Fact → Writing
 firstState h room facts = stateAfter h room (startOf (length facts) room false) facts
 
+-- the state after both passes
 abbrev pub lastState : Head → ℕ → List Fact → Writing
 lastState h room facts = stateAfter h room (secondStart (length facts) room (firstState h room facts)) facts
 
+-- the lent memory after both passes
 abbrev pub lastMemory : Head → List ℕ → List Fact → List ℕ
 lastMemory h out facts =
     memoryAfter h (countStored out (length facts) (firstState h (length out) facts)) (secondStart (length facts) (length out) (firstState h (length out) facts)) facts

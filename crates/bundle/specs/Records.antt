@@ -26,6 +26,7 @@ recordFault h last f =
     5
     (cond (not (leb (f .subject) mostThing)) 3 (cond (not (leb (f .object) mostThing)) 3 (cond (not (ascends last f)) 8 0))))
 
+-- so many records after one that came before, the first of them with this number: how many there are, or the first fault
 unfoldable pub recordsFrom : Head → Last → ℕ → List Fact → Answer ℕ
 recordsFrom h last k [] = gives k
 recordsFrom h last k (f ∷ fs) =

@@ -64,9 +64,11 @@ factRest s predicate at =
 unfoldable pub lastOf : Before → Last
 lastOf b = cond (b .any) (after (b .last)) none
 
+-- no fact before
 abbrev pub beforeFirst : Before
 beforeFirst = record { last = record { predicate = 0; subject = 0; object = 0 }; any = false }
 
+-- a fact before
 abbrev pub afterFact : Fact → Before
 afterFact f = record { last = f; any = true }
 

@@ -19,6 +19,7 @@ use Rattle.clean.specs.declared.types.Typ.{Typ}
 abbrev pub code : SaidTyp → Typ
 code x = record { node = nodeCode (x .node); from = x .from; to = x .to }
 
+-- the types of a fact, by their nodes' numbers
 unfoldable pub codedTypes : Fact → List Typ
 codedTypes f = map code (typesOf itself f)
 

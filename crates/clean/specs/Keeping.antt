@@ -36,6 +36,7 @@ pub record SmallMeasure (m : Measure) : Type 0 where
 pub record StoresIf (out : List ℕ) (at : ℕ) (keeps : Bool) (f : Fact) : Type 0 where
   pub fits : keeps ≡ true → StoresFact out at f
 
+-- the place after them, and the lent memory afterwards
 pub record StoredIf (out : List ℕ) (at : ℕ) (keeps : Bool) (f : Fact) (r : ℕ) (out′ : List ℕ) : Type 0 where
   pub place : r ≡ cond keeps (at + length (factBytes f)) at
   pub memory : out′ ≡ cond keeps (sets out at (factBytes f)) out

@@ -26,6 +26,7 @@ abbrev pub functionalNode : Follows → Node → Bool
 functionalNode t (concept b) = false
 functionalNode t (role q) = t .isFunctional q
 
+-- two types of one functional role from one thing to two different things
 unfoldable pub split : Follows → Typ → Typ → Bool
 split t x y =
     sameNode (x .node) (y .node) && functionalNode t (x .node) && eqb (x .from) (y .from) && not (eqb (x .to) (y .to))
@@ -64,6 +65,7 @@ module _ (ρ : ℕ → ℕ) (t : Follows) where
     unfoldable pub marks : List ℕ
     marks = map mark facts
 
+    -- "one 16-bit number a fact"
     unfoldable pub partners : List ℕ
     partners = map partner facts
 
@@ -71,6 +73,7 @@ module _ (ρ : ℕ → ℕ) (t : Follows) where
     unfoldable pub marked : ℕ → Fact → Bool
     marked m f = eqb (mark f) m
 
+    -- "Counts: of facts, and of each mark, each the number of facts with that property"
     unfoldable pub counts : Counts
     counts =
         record { facts = length facts; kept = count (marked 0) facts; alone = count (marked 1) facts; disputed = count (marked 2) facts }

@@ -38,6 +38,7 @@ pub record Marked : Type 0 where
   pub marks : List ℕ
   pub partners : List ℕ
 
+-- "Marks, one byte a fact", "Partners, one 16-bit number a fact": refusals of rules and bundle, then 9
 unfoldable pub marking : List ℕ → List ℕ → ℕ → ℕ → Answer Marked
 marking rules bundle marksRoom partnersRoom =
     given rules bundle λ h t facts.
@@ -65,6 +66,7 @@ pub data Reply : Type 0 where
   yes-by : ℕ → Reply
   none : Reply
 
+-- "yes with the lowest-numbered kept fact (..); else no"
 unfoldable pub replyOf : Follows → List Fact → Typ → Reply
 replyOf t facts asked =
     cond (ltb (support itself t facts asked) (length facts)) (yes-by (support itself t facts asked)) none

@@ -12,6 +12,7 @@ use Rattle.clean.specs.Types.{itself}
 use Rattle.clean.specs.Marks.{marks, partners, counts}
 use Rattle.clean.specs.declared.answers.Counts.{Counts}
 
+-- before the first fact
 abbrev pub noCounts : Counts
 noCounts = record { facts = 0; kept = 0; alone = 0; disputed = 0 }
 
@@ -19,6 +20,7 @@ noCounts = record { facts = 0; kept = 0; alone = 0; disputed = 0 }
 unfoldable pub oneIf : ℕ → ℕ → ℕ
 oneIf mark wanted = cond (eqb mark wanted) 1 0
 
+-- the same as a number that is at most 1
 pub record OneIf (mark wanted r : ℕ) : Type 0 where
   pub is : r ≡ oneIf mark wanted
   pub small : r ≤ 1

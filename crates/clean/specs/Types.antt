@@ -18,6 +18,7 @@ pub record Typ : Type 0 where
   pub from : ℕ
   pub to : ℕ
 
+-- such a node at such a pair
 abbrev pub typ : Node → ℕ → ℕ → Typ
 typ node from to = record { node = node; from = from; to = to }
 

@@ -6,6 +6,7 @@ use Rattle.operations.specs.Promises.{countedTold}
 use Rattle.operations.specs.declared.mark.Counted.{Counted}
 use Rattle.listing.specs.Listing.{linesOf}
 
+-- a line that is there, with rows that are long enough
 pub record Prints (counted : Counted) (marks partners : List ℕ) (number : ℕ) : Type 0 where
   pub marked : linesOf (countedTold counted) ≤ length marks + 1
   pub partnered : linesOf (countedTold counted) ≤ length partners + 1

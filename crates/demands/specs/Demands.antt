@@ -70,9 +70,11 @@ pub record BothRead (rules bundle : List ℕ) : Type 0 where
   pub bundle-read : readBundle head bundle ≡ gives facts
 
 module _ {rules bundle : List ℕ} (a : BothRead rules bundle) where
+  -- the rules that were read
   abbrev pub site : Site
   site = siteOf rules (a .head)
 
+  -- the kept facts, by document 01's marks
   abbrev pub keptFacts : List Fact
   keptFacts = kept itself (followsOf site) (a .facts)
 
@@ -105,6 +107,7 @@ pub record ReaderYields : Type 0 where
 
 -- ---- Demand 3: worlds decide
 
+-- the marks, the written bytes and the answers that C sees, against worlds
 pub record WorldsDecide : Type 1 where
   -- an answer that is no refusal is about files that were read
   pub read : (rules bundle : List ℕ) (r : DzyLength) → CheckBundle rules bundle r → r .refused .number ≡ 0 → BothRead rules bundle

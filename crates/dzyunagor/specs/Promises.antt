@@ -47,6 +47,7 @@ Ask rules bundle n r = r ≡ shownAsked (asking rules bundle n)
 unfoldable pub Has : List ℕ → List ℕ → ℕ → ℕ → DzyAnswer → Type 0
 Has rules bundle code thing r = r ≡ shownAnswer (having rules bundle code thing)
 
+-- "q from a to b"
 unfoldable pub Joins : List ℕ → List ℕ → ℕ → ℕ → ℕ → DzyAnswer → Type 0
 Joins rules bundle code from to r = r ≡ shownAnswer (joining rules bundle code from to)
 

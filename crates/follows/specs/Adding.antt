@@ -18,6 +18,7 @@ pub data CamePair (pairs : List Pair) (old : List ℕ) (u v : ℕ) : Type 0 wher
   at-once : Has old u v → CamePair pairs old u v
   of-pair : (a : Pair) → List·Memᴰ a pairs → u ≡ nodeCode (a .left) → v ≡ nodeCode (a .right) → CamePair pairs old u v
 
+-- what was there stays, the pairs come, and nothing else came
 pub record AddedAll (pairs : List Pair) (old new : List ℕ) : Type 0 where
   pub table : IsTable new
   pub stays : (u v : ℕ) → Has old u v → Has new u v
@@ -28,6 +29,7 @@ pub record AddedAll (pairs : List Pair) (old new : List ℕ) : Type 0 where
 abbrev pub roleArrows : BasicRole → BasicRole → List Pair
 roleArrows p q = record { left = role p; right = role q } ∷ record { left = role (turned p); right = role (turned q) } ∷ []
 
+-- those of having partners by them (step 4)
 abbrev pub someArrows : BasicRole → BasicRole → List Pair
 someArrows p q =
     record { left = concept (some p); right = concept (some q) } ∷ record { left = concept (some (turned p)); right = concept (some (turned q)) } ∷ []
@@ -36,6 +38,7 @@ someArrows p q =
 abbrev pub inBothOrders : Pair → List Pair
 inBothOrders w = w ∷ record { left = w .right; right = w .left } ∷ []
 
+-- what a rule says is excluded, in both orders
 abbrev pub exclusionsOf : Rule → List Pair
 exclusionsOf r = each inBothOrders (writtenOf r)
 
@@ -48,6 +51,7 @@ ring j =
     ∷ record { left = role (inverse j); right = role (forward j) }
     ∷ []
 
+-- the rings of the first roles
 unfoldable pub rings : ℕ → List Pair
 rings n = each ring (upTo n)
 
@@ -61,6 +65,7 @@ pub data CameFunctional (rule : Rule) (old k : ℕ) : Type 0 where
   at-once : bitOf old k ≡ true → CameFunctional rule old k
   of-rule : rule ≡ functional (roleOf k) → CameFunctional rule old k
 
+-- what was there stays, the rule's bit comes, and nothing else came
 pub record FunctionalAdded (rule : Rule) (old new : ℕ) : Type 0 where
   pub stays : (k : ℕ) → bitOf old k ≡ true → bitOf new k ≡ true
   pub comes : (k : ℕ) → k < 64 → rule ≡ functional (roleOf k) → bitOf new k ≡ true

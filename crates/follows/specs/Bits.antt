@@ -14,6 +14,7 @@ bitOf w k = eqb (w / 2 ^ k % 2) 1
 unfoldable pub has : List ℕ → ℕ → ℕ → Bool
 has t x y = ltb x 192 && (ltb y 192 && bitOf (getD t (x * 3 + y / 64) 0) (y % 64))
 
+-- it has
 abbrev pub Has : List ℕ → ℕ → ℕ → Type 0
 Has t x y = has t x y ≡ true
 
@@ -26,6 +27,7 @@ pub data CameAdded (old : List ℕ) (x y u v : ℕ) : Type 0 where
   old-one : Has old u v → CameAdded old x y u v
   new-one : u ≡ x → v ≡ y → CameAdded old x y u v
 
+-- what was there stays, the bit comes, and nothing else came
 pub record Added (old new : List ℕ) (x y : ℕ) : Type 0 where
   pub table : IsTable new
   pub stays : (u v : ℕ) → Has old u v → Has new u v
@@ -37,6 +39,7 @@ pub data CameJoined (old : List ℕ) (x y u v : ℕ) : Type 0 where
   old-one : Has old u v → CameJoined old x y u v
   from-row : u ≡ x → Has old y v → CameJoined old x y u v
 
+-- what was there stays, row y comes into row x, and nothing else came
 pub record Joined (old new : List ℕ) (x y : ℕ) : Type 0 where
   pub table : IsTable new
   pub stays : (u v : ℕ) → Has old u v → Has new u v

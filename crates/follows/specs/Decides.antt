@@ -8,6 +8,7 @@ use Rattle.site.specs.Kinds.Rule.{functional}
 use Rattle.follows.specs.Steps.{Included, Excluded}
 use Rattle.follows.specs.Tables.{Follows}
 
+-- each test of the tables answers for the relation of the steps, both ways
 pub record Decides (s : Site) (t : Follows) : Type 0 where
   pub included : (x y : Node) → (t .isIncluded x y ≡ true) ↔ Included s x y
   pub excluded : (x y : Node) → (t .isExcluded x y ≡ true) ↔ Excluded s x y

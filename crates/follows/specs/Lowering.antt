@@ -7,6 +7,7 @@ use Rattle.follows.specs.Bits.{bitOf, Has, IsTable}
 use Rattle.follows.specs.Listed.{countOf, nodeAt, Listed}
 use Rattle.follows.specs.Passes.{Within}
 
+-- "X in Y, Y in Z", of a table
 abbrev pub Transitive : List ℕ → Type 0
 Transitive t = (x y z : ℕ) → Has t x y → Has t y z → Has t x z
 
@@ -26,6 +27,7 @@ pub data CameBit (word : ℕ) (old : List ℕ) (x u a v : ℕ) : Type 0 where
   at-once : Has old a v → CameBit word old x u a v
   taken : a ≡ x → word % 2 ≡ 1 → Has old u v → CameBit word old x u a v
 
+-- row x has taken row u in, if so, and nothing else came
 pub record TookBit (word : ℕ) (old new : List ℕ) (x u : ℕ) : Type 0 where
   pub table : IsTable new
   pub stays : (a v : ℕ) → Has old a v → Has new a v
@@ -37,6 +39,7 @@ pub data CameWord (word base : ℕ) (old : List ℕ) (x a v : ℕ) : Type 0 wher
   at-once : Has old a v → CameWord word base old x a v
   taken : (b : ℕ) → b < 64 → a ≡ x → bitOf word b ≡ true → Has old (base + b) v → CameWord word base old x a v
 
+-- so many bits of the word are done
 pub record TookTo (bits rest word base : ℕ) (old new : List ℕ) (x : ℕ) : Type 0 where
   pub table : IsTable new
   pub left : rest ≡ word / 2 ^ bits
@@ -44,6 +47,7 @@ pub record TookTo (bits rest word base : ℕ) (old new : List ℕ) (x : ℕ) : T
   pub comes : (b v : ℕ) → b < bits → x < 192 → bitOf word b ≡ true → Has old (base + b) v → Has new x v
   pub came : (a v : ℕ) → Has new a v → CameWord word base old x a v
 
+-- all bits of the word are done
 pub record TookWord (word base : ℕ) (old new : List ℕ) (x : ℕ) : Type 0 where
   pub table : IsTable new
   pub stays : (a v : ℕ) → Has old a v → Has new a v
@@ -55,6 +59,7 @@ pub data CameRow (by old : List ℕ) (x a v : ℕ) : Type 0 where
   at-once : Has old a v → CameRow by old x a v
   taken : (u : ℕ) → a ≡ x → Has by x u → Has old u v → CameRow by old x a v
 
+-- the whole row is done
 pub record TookRow (by old new : List ℕ) (x : ℕ) : Type 0 where
   pub table : IsTable new
   pub stays : (a v : ℕ) → Has old a v → Has new a v
@@ -73,6 +78,7 @@ pub record WidenedTo (k concepts roles : ℕ) (by old new : List ℕ) : Type 0 w
   pub comes : (i u v : ℕ) → i < k → Has by (nodeAt concepts roles i) u → Has old u v → Has new (nodeAt concepts roles i) v
   pub came : Transitive by → (a v : ℕ) → Has new a v → Down by old a v
 
+-- the rows of all places have
 abbrev pub Widened : ℕ → ℕ → List ℕ → List ℕ → List ℕ → Type 0
 Widened concepts roles = WidenedTo (countOf concepts roles) concepts roles
 
@@ -86,6 +92,7 @@ pub data CameGiven (word : ℕ) (old : List ℕ) (x u a v : ℕ) : Type 0 where
   at-once : Has old a v → CameGiven word old x u a v
   given : a ≡ u → v ≡ x → word % 2 ≡ 1 → CameGiven word old x u a v
 
+-- row u has taken x in, if so, and nothing else came
 pub record GaveBit (word : ℕ) (old new : List ℕ) (x u : ℕ) : Type 0 where
   pub table : IsTable new
   pub stays : (a v : ℕ) → Has old a v → Has new a v
@@ -97,6 +104,7 @@ pub data CameGivenWord (word base : ℕ) (old : List ℕ) (x a v : ℕ) : Type 0
   at-once : Has old a v → CameGivenWord word base old x a v
   given : (b : ℕ) → b < 64 → a ≡ base + b → v ≡ x → bitOf word b ≡ true → CameGivenWord word base old x a v
 
+-- so many bits of the word are done
 pub record GaveTo (bits rest word base : ℕ) (old new : List ℕ) (x : ℕ) : Type 0 where
   pub table : IsTable new
   pub left : rest ≡ word / 2 ^ bits
@@ -104,6 +112,7 @@ pub record GaveTo (bits rest word base : ℕ) (old new : List ℕ) (x : ℕ) : T
   pub comes : (b : ℕ) → b < bits → x < 192 → base + b < 192 → bitOf word b ≡ true → Has new (base + b) x
   pub came : (a v : ℕ) → Has new a v → CameGivenWord word base old x a v
 
+-- all bits of the word are done
 pub record GaveWord (word base : ℕ) (old new : List ℕ) (x : ℕ) : Type 0 where
   pub table : IsTable new
   pub stays : (a v : ℕ) → Has old a v → Has new a v
@@ -117,12 +126,14 @@ pub record MirroredRow (old new : List ℕ) (x : ℕ) : Type 0 where
   pub comes : (y : ℕ) → Has old x y → Has new y x
   pub came : (u v : ℕ) → Has new u v → Either old u v
 
+-- so for the rows of the first k places
 pub record MirroredTo (k concepts roles : ℕ) (old new : List ℕ) : Type 0 where
   pub table : IsTable new
   pub stays : (u v : ℕ) → Has old u v → Has new u v
   pub comes : (i y : ℕ) → i < k → Has old (nodeAt concepts roles i) y → Has new y (nodeAt concepts roles i)
   pub came : (u v : ℕ) → Has new u v → Either old u v
 
+-- so for all rows: the table is symmetric (step 5)
 abbrev pub Mirrored : ℕ → ℕ → List ℕ → List ℕ → Type 0
 Mirrored concepts roles = MirroredTo (countOf concepts roles) concepts roles
 
@@ -145,12 +156,14 @@ pub data CameEmptied (on old : List ℕ) (w u v : ℕ) : Type 0 where
   at-once : Has old u v → CameEmptied on old w u v
   leads : u ≡ v → Has on u w → CameEmptied on old w u v
 
+-- z excludes itself, if so, and nothing else came
 pub record EmptiedOne (on old new : List ℕ) (z w : ℕ) : Type 0 where
   pub table : IsTable new
   pub stays : (u v : ℕ) → Has old u v → Has new u v
   pub comes : Has on z w → Has new z z
   pub came : (u v : ℕ) → Has new u v → CameEmptied on old w u v
 
+-- so for the nodes of the first k places
 pub record EmptiedRow (k concepts roles : ℕ) (on old new : List ℕ) (w : ℕ) : Type 0 where
   pub table : IsTable new
   pub stays : (u v : ℕ) → Has old u v → Has new u v
@@ -170,6 +183,7 @@ pub record EmptiedBy (concepts roles : ℕ) (on old new : List ℕ) (w : ℕ) : 
       → Has new (nodeAt concepts roles i) (nodeAt concepts roles i)
   pub came : (u v : ℕ) → Has new u v → Emptied on old u v
 
+-- so for the first k nodes that exclude themselves
 pub record EmptiedTo (k concepts roles : ℕ) (on old new : List ℕ) : Type 0 where
   pub table : IsTable new
   pub stays : (u v : ℕ) → Has old u v → Has new u v
@@ -177,6 +191,7 @@ pub record EmptiedTo (k concepts roles : ℕ) (on old new : List ℕ) : Type 0 w
       → Has on (nodeAt concepts roles j) (nodeAt concepts roles i) → Has new (nodeAt concepts roles j) (nodeAt concepts roles j)
   pub came : Transitive on → (u v : ℕ) → Has new u v → Emptied on old u v
 
+-- so for all (step 8)
 abbrev pub EmptiedAll : ℕ → ℕ → List ℕ → List ℕ → List ℕ → Type 0
 EmptiedAll concepts roles = EmptiedTo (countOf concepts roles) concepts roles
 
@@ -185,6 +200,7 @@ pub data Shut (by on t : List ℕ) (x y : ℕ) : Type 0 where
   apart : Meets by t x y → Shut by on t x y
   void : (z w : ℕ) → Has by x z → Has by y z → Has on z w → Meets by t w w → Shut by on t x y
 
+-- the table has just what is shut so
 pub record Shuts (concepts roles : ℕ) (by on old new : List ℕ) : Type 0 where
   pub table : IsTable new
   pub sound : Order concepts roles by → Order concepts roles on → Even concepts roles old → (x y : ℕ) → Has new x y → Shut by on old x y

@@ -25,6 +25,7 @@ pub record PassedTo (k concepts roles : ℕ) (old new : List ℕ) (m : ℕ) : Ty
   pub comes : (i v : ℕ) → i < k → Has old (nodeAt concepts roles i) m → Has old m v → Has new (nodeAt concepts roles i) v
   pub came : (u v : ℕ) → Has new u v → Through old m u v
 
+-- the rows of all places have
 abbrev pub Passed : ℕ → ℕ → List ℕ → List ℕ → ℕ → Type 0
 Passed concepts roles = PassedTo (countOf concepts roles) concepts roles
 
@@ -33,12 +34,14 @@ pub data CameReflected (concepts roles : ℕ) (old : List ℕ) (u v : ℕ) : Typ
   at-once : Has old u v → CameReflected concepts roles old u v
   itself : Listed concepts roles u → u ≡ v → CameReflected concepts roles old u v
 
+-- what was there stays, the first k nodes come, and nothing else came
 pub record ReflectedTo (k concepts roles : ℕ) (old new : List ℕ) : Type 0 where
   pub table : IsTable new
   pub stays : (u v : ℕ) → Has old u v → Has new u v
   pub comes : (i : ℕ) → i < k → nodeAt concepts roles i < 192 → Has new (nodeAt concepts roles i) (nodeAt concepts roles i)
   pub came : (u v : ℕ) → Has new u v → CameReflected concepts roles old u v
 
+-- so for all declared nodes (step 1)
 abbrev pub Reflected : ℕ → ℕ → List ℕ → List ℕ → Type 0
 Reflected concepts roles = ReflectedTo (countOf concepts roles) concepts roles
 
@@ -58,6 +61,7 @@ pub record TurnedTo (k concepts roles : ℕ) (old new : List ℕ) : Type 0 where
   pub sound : (u v : ℕ) → Has new u v → Reach concepts roles old u v
   pub joins : Within concepts roles old → (i u v : ℕ) → i < k → Has new u (nodeAt concepts roles i) → Has new (nodeAt concepts roles i) v → Has new u v
 
+-- all declared nodes have been gone through (step 2)
 abbrev pub Turned : ℕ → ℕ → List ℕ → List ℕ → Type 0
 Turned concepts roles = TurnedTo (countOf concepts roles) concepts roles
 

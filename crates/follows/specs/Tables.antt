@@ -9,6 +9,7 @@ use Rattle.site.specs.Kinds.Node.{concept, role}
 use Rattle.site.specs.Kinds.Rule.{included, disjoint, roleIncluded, roleDisjoint, functional}
 use Rattle.site.specs.Lists.{upTo, any, each}
 
+-- a relation that computes
 abbrev pub Relation : Type 0
 Relation = Node → Node → Bool
 
@@ -16,6 +17,7 @@ Relation = Node → Node → Bool
 unfoldable pub rolesOf : ℕ → List BasicRole
 rolesOf n = each (λ j. forward j ∷ inverse j ∷ []) (upTo n)
 
+-- the basic concepts and the basic roles of a site
 unfoldable pub nodesOf : Site → List Node
 nodesOf s =
     map (λ i. concept (named i)) (upTo (s .concepts))
@@ -48,6 +50,7 @@ writtenOf (included b c) = []
 writtenOf (roleIncluded p q) = []
 writtenOf (functional q) = []
 
+-- what the rules say is included
 unfoldable pub arrow : List Rule → Relation
 arrow rules x y = any (λ r. any (λ a. sameNode (a .left) x && sameNode (a .right) y) (arrowsOf r)) rules
 
@@ -67,9 +70,11 @@ find none [] rows x = none
 find none (n ∷ ns) [] x = none
 find none (n ∷ ns) (row ∷ rows) x = cond (sameNode n x) row (find none ns rows x)
 
+-- the table of a relation
 unfoldable pub rowsOf : List Node → Relation → List (List Bool)
 rowsOf nodes R = map (λ x. map (λ y. R x y) nodes) nodes
 
+-- the relation of a table
 unfoldable pub looked : List Node → List (List Bool) → Relation
 looked nodes rows x y = find false nodes (find [] nodes rows x) y
 
@@ -79,6 +84,7 @@ through nodes [] rows = rows
 through nodes (m ∷ ms) rows =
     through nodes ms (rowsOf nodes (λ x y. looked nodes rows x y || looked nodes rows x m && looked nodes rows m y))
 
+-- steps 1 and 2
 unfoldable pub closure : List Node → Relation → List (List Bool)
 closure nodes R = through nodes nodes (rowsOf nodes (λ x y. sameNode x y || R x y))
 
@@ -101,6 +107,7 @@ pub record Follows : Type 0 where
   pub isExcluded : Relation
   pub isFunctional : BasicRole → Bool
 
+-- "q is functional"
 abbrev pub saysFunctional : BasicRole → Rule → Bool
 saysFunctional q (functional p) = sameRole p q
 saysFunctional q (included b c) = false
@@ -108,13 +115,16 @@ saysFunctional q (disjoint b c) = false
 saysFunctional q (roleIncluded p r) = false
 saysFunctional q (roleDisjoint p r) = false
 
+-- some rule says so
 unfoldable pub functionalIn : List Rule → BasicRole → Bool
 functionalIn rules q = any (saysFunctional q) rules
 
+-- what is excluded, as a table
 unfoldable pub excludedRows : List Node → List Rule → Relation → Relation → List (List Bool)
 excludedRows nodes rules leads leadsOn =
     rowsOf nodes (excludes nodes leads (apart leads rules) (empty nodes leadsOn (apart leads rules)))
 
+-- what follows, by the tables of what leads where
 unfoldable pub followsFrom : List Node → List Rule → List (List Bool) → List (List Bool) → Follows
 followsFrom nodes rules rows rowsOn =
     record {
@@ -123,6 +133,7 @@ followsFrom nodes rules rows rowsOn =
       isFunctional = functionalIn rules;
     }
 
+-- "Inclusions that follow", of a site
 unfoldable pub followsOf : Site → Follows
 followsOf s =
     followsFrom (nodesOf s) (s .rules)

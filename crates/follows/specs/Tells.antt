@@ -28,6 +28,7 @@ pub record FunctionalOf (rules : List Rule) (word : ℕ) : Type 0 where
   pub comes : (k : ℕ) → k < 64 → List·Memᴰ (functional (roleOf k)) rules → bitOf word k ≡ true
   pub came : (k : ℕ) → bitOf word k ≡ true → List·Memᴰ (functional (roleOf k)) rules
 
+-- the bits of the rules before the rest
 pub record FunctionalSoFar (whole rest : List Rule) (word : ℕ) : Type 0 where
   pub done : List Rule
   pub split : whole ≡ done ++ rest

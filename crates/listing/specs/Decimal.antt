@@ -22,6 +22,7 @@ unfoldable pub readOn : ℕ → List ℕ → ℕ
 readOn n [] = n
 readOn n (d ∷ ds) = readOn (n * 10 + (d - 48)) ds
 
+-- the number that digits say
 abbrev pub valueOf : List ℕ → ℕ
 valueOf ds = readOn 0 ds
 
@@ -29,6 +30,7 @@ valueOf ds = readOn 0 ds
 unfoldable pub isDigit : ℕ → Bool
 isDigit d = leb 48 d && ltb d 58
 
+-- so is every byte of a list
 unfoldable pub digitsOnly : List ℕ → Bool
 digitsOnly [] = true
 digitsOnly (d ∷ ds) = cond (isDigit d) (digitsOnly ds) false

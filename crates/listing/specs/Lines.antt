@@ -15,12 +15,15 @@ use Rattle.listing.specs.Put.{Laid, named}
 abbrev pub factsWord : List ℕ
 factsWord = 102 ∷ 97 ∷ 99 ∷ 116 ∷ 115 ∷ 32 ∷ []
 
+-- ` kept `
 abbrev pub keptCount : List ℕ
 keptCount = 32 ∷ 107 ∷ 101 ∷ 112 ∷ 116 ∷ 32 ∷ []
 
+-- ` alone `
 abbrev pub aloneCount : List ℕ
 aloneCount = 32 ∷ 97 ∷ 108 ∷ 111 ∷ 110 ∷ 101 ∷ 32 ∷ []
 
+-- ` disputed `
 abbrev pub disputedWord : List ℕ
 disputedWord = 32 ∷ 100 ∷ 105 ∷ 115 ∷ 112 ∷ 117 ∷ 116 ∷ 101 ∷ 100 ∷ 32 ∷ []
 
@@ -28,6 +31,7 @@ disputedWord = 32 ∷ 100 ∷ 105 ∷ 115 ∷ 112 ∷ 117 ∷ 116 ∷ 101 ∷ 10
 abbrev pub keptWord : List ℕ
 keptWord = 32 ∷ 107 ∷ 101 ∷ 112 ∷ 116 ∷ []
 
+-- ` alone`
 abbrev pub aloneWord : List ℕ
 aloneWord = 32 ∷ 97 ∷ 108 ∷ 111 ∷ 110 ∷ 101 ∷ []
 
@@ -35,12 +39,15 @@ aloneWord = 32 ∷ 97 ∷ 108 ∷ 111 ∷ 110 ∷ 101 ∷ []
 abbrev pub refusedWord : List ℕ
 refusedWord = 114 ∷ 101 ∷ 102 ∷ 117 ∷ 115 ∷ 101 ∷ 100 ∷ 32 ∷ []
 
+-- ` in rules at `
 abbrev pub rulesWord : List ℕ
 rulesWord = 32 ∷ 105 ∷ 110 ∷ 32 ∷ 114 ∷ 117 ∷ 108 ∷ 101 ∷ 115 ∷ 32 ∷ 97 ∷ 116 ∷ 32 ∷ []
 
+-- ` in bundle at `
 abbrev pub bundleWord : List ℕ
 bundleWord = 32 ∷ 105 ∷ 110 ∷ 32 ∷ 98 ∷ 117 ∷ 110 ∷ 100 ∷ 108 ∷ 101 ∷ 32 ∷ 97 ∷ 116 ∷ 32 ∷ []
 
+-- "each line ends with one newline"
 abbrev pub newline : List ℕ
 newline = 10 ∷ []
 
@@ -70,6 +77,7 @@ pub record LaidMark (out : List ℕ) (at mark partner r : ℕ) (out′ : List �
   pub laid : Laid out at (markOf mark partner) r out′
   pub few : r ≤ at + 30
 
+-- a refusal's side and place, at a place
 pub record LaidPlace (out : List ℕ) (at side place r : ℕ) (out′ : List ℕ) : Type 0 where
   pub laid : Laid out at (placeOf side place) r out′
   pub few : r ≤ at + 34

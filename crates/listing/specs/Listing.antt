@@ -33,6 +33,7 @@ abbrev pub rowOf : Answer (List ℕ) → List ℕ
 rowOf (gives row) = row
 rowOf (refuses r) = []
 
+-- what the program prints for some rules and some bundle
 unfoldable pub listingOf : List ℕ → List ℕ → List ℕ
 listingOf rules bundle =
     linesFrom

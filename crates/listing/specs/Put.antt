@@ -21,6 +21,7 @@ pub record LaidNumber (out : List ℕ) (at n r : ℕ) (out′ : List ℕ) : Type
 unfoldable pub named : List ℕ → ℕ → List ℕ
 named word n = word ++ decimalOf n
 
+-- a word and its number at a place
 pub record LaidNamed (out : List ℕ) (at : ℕ) (word : List ℕ) (n r : ℕ) (out′ : List ℕ) : Type 0 where
   pub laid : Laid out at (named word n) r out′
   pub few : r ≤ at + length word + 20

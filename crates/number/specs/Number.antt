@@ -21,6 +21,7 @@ unfoldable pub third : ℕ → List ℕ → Form
 third low [] = fault 1
 third low (c ∷ s) = cond (ltb c 128) (ending c (low + 16384 * c) 3) (fault 3)
 
+-- the second byte is the last, or there is a third
 unfoldable pub second : ℕ → List ℕ → Form
 second low [] = fault 1
 second low (b ∷ s) = cond (ltb b 128) (ending b (low + 128 * b) 2) (third (low + 128 * (b - 128)) s)
@@ -34,6 +35,7 @@ formOf (a ∷ s) = cond (ltb a 128) (whole a 1) (second (a - 128) s)
 abbrev pub judged : ℕ → ℕ → ℕ → ℕ → ℕ → Answer (Read ℕ)
 judged value next at most side = cond (leb value most) (gives (record { value = value; next = next })) (refuses (refusal 3 side at))
 
+-- a form that is whole is judged; a fault is refused
 abbrev pub judgeAt : ℕ → ℕ → ℕ → Form → Answer (Read ℕ)
 judgeAt at most side (whole value size) = judged value (at + size) at most side
 judgeAt at most side (fault number) = refuses (refusal number side at)

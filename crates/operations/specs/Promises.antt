@@ -49,18 +49,22 @@ abbrev pub openedTold : Opened → Answer Inputs
 openedTold (Ready i) = gives i
 openedTold (NotReady r) = refuses r
 
+-- the refusal in it; there is none in files that were read
 abbrev pub openedRefusal : Opened → Refusal
 openedRefusal (Ready i) = refusal 0 0 0
 openedRefusal (NotReady r) = r
 
+-- counts, or the refusal
 abbrev pub countedTold : Counted → Answer Counts
 countedTold (CountsAre c) = gives c
 countedTold (NotCounted r) = refuses r
 
+-- a mark and a partner, or the refusal
 abbrev pub askedTold : Asked → Answer Judged
 askedTold (JudgedSo j) = gives j
 askedTold (NotJudged r) = refuses r
 
+-- yes with a fact, no, or the refusal
 abbrev pub repliedTold : Replied → Answer Reply
 repliedTold (Yes n) = gives (yes-by n)
 repliedTold No = gives none

@@ -18,6 +18,7 @@ use Rattle.records.specs.declared.hand.Taken.{Taken}
 abbrev pub recordOf : Fact → Record
 recordOf f = record { predicate = f .predicate; subject = f .subject; object = f .object }
 
+-- the fact that a record is of
 abbrev pub factOf : Record → Fact
 factOf r = record { predicate = r .predicate; subject = r .subject; object = r .object }
 
@@ -40,6 +41,7 @@ abbrev pub takenOf : ℕ → Answer (Read Fact) → Taken
 takenOf at (gives f) = record { slot = recordOf (f .value); next = f .next }
 takenOf at (refuses r) = record { slot = record { predicate = 0; subject = 0; object = 0 }; next = at }
 
+-- the same at a place of a bundle
 unfoldable pub takeAt : List ℕ → ℕ → Taken
 takeAt bundle at = takenOf at (factAt (λ _. true) bundle at)
 

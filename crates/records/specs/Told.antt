@@ -31,6 +31,7 @@ yieldTold (Fact f) = gives (fact f)
 yieldTold (RefusedYield r) = refuses r
 yieldTold Done = gives done
 
+-- a step: what it yields, and the next byte afterwards
 abbrev pub stepTold : Step → Stepped
 stepTold s = record { yields = yieldTold (s .yields); next = s .next }
 

@@ -28,6 +28,7 @@ openedBy (refuses r) records room =
       first = startOf 0 0 false;
     }
 
+-- the start, for some rules
 unfoldable pub opened : List ℕ → ℕ → ℕ → Opening
 opened rules records room = openedBy (checkRules rules) records room
 

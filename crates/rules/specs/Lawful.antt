@@ -8,6 +8,7 @@ use Rattle.site.specs.Kinds.Node.{concept}
 use Rattle.site.specs.Kinds.Rule.{included, disjoint, roleIncluded, roleDisjoint, functional}
 use Rattle.site.specs.Limits.{mostConcepts, mostRoles}
 
+-- "A code above its kind's range is undeclared": every code of the rule is declared
 abbrev pub ruleDeclared : Site → Rule → Bool
 ruleDeclared s (included b c) = declared s (concept b) && declared s (concept c)
 ruleDeclared s (disjoint b c) = declared s (concept b) && declared s (concept c)
@@ -15,6 +16,7 @@ ruleDeclared s (roleIncluded p q) = declaredRole s p && declaredRole s q
 ruleDeclared s (roleDisjoint p q) = declaredRole s p && declaredRole s q
 ruleDeclared s (functional q) = declaredRole s q
 
+-- rules that a rule file may hold
 pub record Lawful (s : Site) : Type 0 where
   pub concepts-within : s .concepts ≤ mostConcepts
   pub roles-within : s .roles ≤ mostRoles

@@ -3,7 +3,7 @@ use Prim.Native.Nat.{ℕ, zero, suc}
 use mathlib.Core.Bool.{Bool, false, cond}
 use mathlib.Core.List.{List, [], _∷_}
 use lib.Dec.{leb, eqb}
-use Rattle.number.specs.Answer.{Answer, Read, refusal, _then_, over}
+use Rattle.number.specs.Answer.{Answer, Read, refusal, _then_}
 use Rattle.number.specs.Answer.Answer.{gives, refuses}
 use Rattle.site.specs.Kinds.{Rule, Site, roleIn}
 use Rattle.site.specs.Kinds.Rule.{included, disjoint, roleIncluded, roleDisjoint, functional}
@@ -53,6 +53,7 @@ onRight j (disjoint b c) = false
 onRight j (roleDisjoint p q) = false
 onRight j (functional q) = false
 
+-- a functional rule whose role stands on the right of some rule
 abbrev pub broken : List Rule → Rule → Bool
 broken rules (functional q) = any (onRight (roleIn q)) rules
 broken rules (included b c) = false
@@ -83,6 +84,3 @@ checkRules s =
 -- the rules that a file's head and bytes say
 unfoldable pub siteOf : List ℕ → Head → Site
 siteOf s h = record { concepts = h .concepts; roles = h .roles; rules = rulesIn h s (h .rules) (h .start) }
-
-unfoldable pub readRules : List ℕ → Answer Site
-readRules s = over (siteOf s) (checkRules s)

@@ -22,18 +22,22 @@ use Rattle.rules.specs.declared.read.RuleRead.the-variants.{Read as Rule
 use Rattle.rules.specs.declared.check.RulesRead.{RulesRead}
 use Rattle.rules.specs.declared.check.RulesRead.the-variants.{Accepted, Refused}
 
+-- a head, or the refusal
 abbrev pub headTold : HeadRead → Answer Head
 headTold (HeadIs h) = gives h
 headTold (HeadRefused r) = refuses r
 
+-- a rule with the place after it, or the refusal
 abbrev pub ruleReadTold : RuleRead → Answer (Read Rule)
 ruleReadTold (RuleIs rule next) = gives (record { value = ruleTold rule; next = next })
 ruleReadTold (RuleRefused r) = refuses r
 
+-- the refusal in it; there is none in a rule
 abbrev pub ruleReadRefusal : RuleRead → Refusal
 ruleReadRefusal (RuleIs rule next) = refusal 0 0 0
 ruleReadRefusal (RuleRefused r) = r
 
+-- an accepted rule file's head, or the refusal
 abbrev pub rulesTold : RulesRead → Answer Head
 rulesTold (Accepted h) = gives h
 rulesTold (Refused r) = refuses r

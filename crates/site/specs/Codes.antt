@@ -12,6 +12,7 @@ use Rattle.site.specs.Kinds.Rule.{included, disjoint, roleIncluded, role
 unfoldable pub roleOf : ℕ → BasicRole
 roleOf q = cond (eqb (q % 2) 0) (forward (q / 2)) (inverse (q / 2))
 
+-- the code of a basic role
 abbrev pub roleCode : BasicRole → ℕ
 roleCode (forward j) = 2 * j
 roleCode (inverse j) = 2 * j + 1
@@ -20,6 +21,7 @@ roleCode (inverse j) = 2 * j + 1
 unfoldable pub conceptOf : ℕ → BasicConcept
 conceptOf b = cond (ltb b 64) (named b) (some (roleOf (b - 64)))
 
+-- the code of a basic concept
 abbrev pub conceptCode : BasicConcept → ℕ
 conceptCode (named i) = i
 conceptCode (some q) = 64 + roleCode q
@@ -28,6 +30,7 @@ conceptCode (some q) = 64 + roleCode q
 unfoldable pub nodeOf : ℕ → Node
 nodeOf x = cond (ltb x 128) (concept (conceptOf x)) (role (roleOf (x - 128)))
 
+-- the number of either
 abbrev pub nodeCode : Node → ℕ
 nodeCode (concept b) = conceptCode b
 nodeCode (role q) = 128 + roleCode q
@@ -36,6 +39,7 @@ nodeCode (role q) = 128 + roleCode q
 abbrev pub roleDeclared : ℕ → ℕ → Bool
 roleDeclared roles q = ltb (q / 2) roles
 
+-- a basic concept's code: below the concepts, or 64+q with q declared
 unfoldable pub conceptDeclared : ℕ → ℕ → ℕ → Bool
 conceptDeclared concepts roles b = cond (ltb b 64) (ltb b concepts) (roleDeclared roles (b - 64))
 

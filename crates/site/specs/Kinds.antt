@@ -45,6 +45,7 @@ roleIn (inverse j) = j
 abbrev pub declaredRole : Site → BasicRole → Bool
 declaredRole s q = ltb (roleIn q) (s .roles)
 
+-- the same of concepts and roles together
 abbrev pub declared : Site → Node → Bool
 declared s (concept (named i)) = ltb i (s .concepts)
 declared s (concept (some q)) = declaredRole s q
@@ -57,6 +58,7 @@ sameRole (forward i) (inverse j) = false
 sameRole (inverse i) (forward j) = false
 sameRole (inverse i) (inverse j) = eqb i j
 
+-- two codes of one kind that are the same
 abbrev pub sameNode : Node → Node → Bool
 sameNode (concept (named i)) (concept (named j)) = eqb i j
 sameNode (concept (named i)) (concept (some q)) = false

@@ -46,6 +46,7 @@ module _ (w : World) where
   Says true f = w .isA (f .predicate) (w .thing (f .subject))
   Says false f = w .joined (f .predicate - 64) (w .thing (f .subject)) (w .thing (f .object))
 
+  -- a fact, as its predicate is a concept's or a role's
   abbrev pub Holds : Fact → Type 0
   Holds f = Says (ofConcept f) f
 
