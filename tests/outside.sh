@@ -22,11 +22,25 @@ for program in boundary records; do
   need tests/x86.sh build yes "$built/$program" "tests/boundary/$program.c" "$archive"
 done
 
+# the longest part runs beside the others, and says what it has to say at the end
+said=$(mktemp)
+trap 'rm -f "$said"' EXIT
+"$run/damage" "${against[@]}" --seed 1 --cases 200000 >"$said" 2>&1 &
+damage=$!
+
+# its words and its status
+end_of_damage() {
+  local status=0
+  wait "$damage" || status=$?
+  cat "$said"
+  return "$status"
+}
+
 try "every wrong version is noticed" "$run/bite" --seed 1
 try "the steps agree with brute force over worlds" "$run/compare" --against steps --seed 2 --cases 20000
 try "random sites agree with brute force over worlds" "$run/compare" "${against[@]}" --seed 1 --cases 20000
-try "damaged files and bad arguments are refused as document 01 says" "$run/damage" "${against[@]}" --seed 1 --cases 200000
 try "document 01's cases, truncations, changed bytes and limits" "$run/listed" "${against[@]}"
 try "the C boundary on guarded memory, under sanitizers" tests/x86.sh run "$built/boundary"
 try "rows of records and readers in any state at the C boundary" tests/x86.sh run "$built/records"
+try "damaged files and bad arguments are refused as document 01 says" end_of_damage
 exit "$failed"

@@ -14,7 +14,7 @@ bitOf w k = eqb (w / 2 ^ k % 2) 1
 unfoldable pub has : List ℕ → ℕ → ℕ → Bool
 has t x y = ltb x 192 && (ltb y 192 && bitOf (getD t (x * 3 + y / 64) 0) (y % 64))
 
--- it has
+-- the table has it
 abbrev pub Has : List ℕ → ℕ → ℕ → Type 0
 Has t x y = has t x y ≡ true
 

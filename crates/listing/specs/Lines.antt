@@ -11,7 +11,7 @@ use Rattle.clean.specs.declared.answers.Counts.{Counts}
 use Rattle.listing.specs.Decimal.{decimalOf}
 use Rattle.listing.specs.Put.{Laid, named}
 
--- `facts `, ` kept `, ` alone `, ` disputed `
+-- "The words of the listing are fixed byte strings": `facts `
 abbrev pub factsWord : List ℕ
 factsWord = 102 ∷ 97 ∷ 99 ∷ 116 ∷ 115 ∷ 32 ∷ []
 
@@ -27,7 +27,7 @@ aloneCount = 32 ∷ 97 ∷ 108 ∷ 111 ∷ 110 ∷ 101 ∷ 32 ∷ []
 abbrev pub disputedWord : List ℕ
 disputedWord = 32 ∷ 100 ∷ 105 ∷ 115 ∷ 112 ∷ 117 ∷ 116 ∷ 101 ∷ 100 ∷ 32 ∷ []
 
--- ` kept`, ` alone`
+-- ` kept`
 abbrev pub keptWord : List ℕ
 keptWord = 32 ∷ 107 ∷ 101 ∷ 112 ∷ 116 ∷ []
 
@@ -35,7 +35,7 @@ keptWord = 32 ∷ 107 ∷ 101 ∷ 112 ∷ 116 ∷ []
 abbrev pub aloneWord : List ℕ
 aloneWord = 32 ∷ 97 ∷ 108 ∷ 111 ∷ 110 ∷ 101 ∷ []
 
--- `refused `, ` in rules at `, ` in bundle at `
+-- `refused `
 abbrev pub refusedWord : List ℕ
 refusedWord = 114 ∷ 101 ∷ 102 ∷ 117 ∷ 115 ∷ 101 ∷ 100 ∷ 32 ∷ []
 

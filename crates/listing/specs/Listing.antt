@@ -28,7 +28,7 @@ unfoldable pub linesFrom : Answer Counts → List ℕ → List ℕ → ℕ → �
 linesFrom a marks partners k zero = []
 linesFrom a marks partners k (suc left) = lineAt a marks partners k ++ linesFrom a marks partners (suc k) left
 
--- what the program prints for some rules and some bundle
+-- a row, or none where there is a refusal
 abbrev pub rowOf : Answer (List ℕ) → List ℕ
 rowOf (gives row) = row
 rowOf (refuses r) = []
