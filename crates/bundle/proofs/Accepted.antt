@@ -1,28 +1,27 @@
--- What an accepted bundle is: lawful facts, as many as its count says, from its start to the end of its bytes; and where a refused one refuses.
-use Prim.Native.Nat.{ℕ, _≤_, _<_}
-use mathlib.Core.Path.{_≡_, refl, _∙_}
-use mathlib.Core.Bool.{Bool, true, false, cond}
+-- What an accepted bundle is: lawful facts, as many as its count says, from its start to the end of its bytes.
+use Prim.Native.Nat.{ℕ, _≤_}
+use mathlib.Core.Path.{_≡_}
+use mathlib.Core.Bool.{true}
 use mathlib.Core.List.{List}
-use lib.ListN.{length, getD}
-use lib.Dec.{ltb, leb}
+use lib.ListN.{length}
 use native.Mathlib.Omega.{arith}
-use borrow.Author.Tests.{leb-true, ltb-false}
-use Rattle.number.specs.Answer.{Answer, Read, refusal, _then_}
-use Rattle.number.specs.Answer.Answer.{gives, refuses}
+use Rattle.number.specs.Answer.{Answer, Read, _then_}
+use Rattle.number.specs.Answer.Answer.{gives}
 use Rattle.number.specs.Number.{numberAt}
 use Rattle.number.proofs.Laws.{bounds}
 use Rattle.site.specs.declared.fact.Fact.{Fact}
 use Rattle.site.specs.Items.{countAt, endAt}
 use Rattle.site.specs.Kinds.{ofConcept}
 use Rattle.site.specs.Limits.{mostFacts, mostNumber, mostThing}
+use Rattle.site.proofs.There.{count-there, end-there}
 use Rattle.rules.specs.declared.head.Head.{Head}
 use Rattle.bundle.specs.Bundle.{Last, factsFrom, factsOf, predicateKnown, checkBundle}
 use Rattle.bundle.specs.Bundle.Last.{none}
 use Rattle.bundle.specs.Lawful.{LawfulFact, LawfulFrom, LawfulFacts}
 use Rattle.bundle.specs.Lawful.LawfulFrom.{done, next}
 use Rattle.bundle.specs.declared.facts.Facts.{Facts}
-use Rattle.number.proofs.Answers.{never, given-once as same-given, passed, went}
-use Rattle.bundle.proofs.Runs.{ObjectThere, FactThere, Run, walk-there, any-run, FactNumbered, run-numbered}
+use Rattle.number.proofs.Answers.{given-once as same-given, went}
+use Rattle.bundle.proofs.Runs.{ObjectThere, FactThere, Run, walk-there}
 use Rattle.bundle.proofs.Runs.ObjectThere.{of-concept, of-role}
 use Rattle.bundle.proofs.Runs.Run.{stop, more}
 
@@ -48,28 +47,6 @@ module _ (h : Head) (s : List ℕ) where
   pub run-lawful : {last : Last} {fs : List Fact} {at end : ℕ} → Run (predicateKnown h) s last fs at end → LawfulFrom h last fs
   run-lawful stop = done
   run-lawful (more there up run) = next (lawful-fact there) up (run-lawful run)
-
--- a count that is there
-pub record CountThere (s : List ℕ) (at limit side : ℕ) (n : Read ℕ) : Type 0 where
-  pub number : numberAt s at mostNumber side ≡ gives n
-  pub within : n .value ≤ limit
-
-pub count-there : (s : List ℕ) (at limit side : ℕ) (n : Read ℕ) → countAt s at limit side ≡ gives n → CountThere s at limit side n
-unfolding countAt
-count-there s at limit side n e =
-    let w = went (numberAt s at mostNumber side) (λ m. cond (leb (m .value) limit) (gives m) (refuses (refusal 4 side at))) e in
-    let t = passed (leb (w .value .value) limit) (gives (w .value)) (refusal 4 side at) (w .rest) in
-    let same : w .value ≡ n = same-given (t .answer) in
-    record { number = w .first ∙ t .answer; within = rw same at (leb-true (w .value .value) limit (t .test)) }
-
--- nothing stands after the last item
-pub end-there : (s : List ℕ) (at side end : ℕ) → endAt s at side ≡ gives end → length s ≤ at
-unfolding endAt
-end-there s at side end e = by-test (ltb at (length s)) refl e
-  where
-    by-test : (t : Bool) → ltb at (length s) ≡ t → cond t (refuses (refusal 7 side at)) (gives at) ≡ gives end → length s ≤ at
-    by-test true is e = absurd (never e)
-    by-test false is e = ltb-false at (length s) is
 
 -- a bundle that was accepted: its count, and its facts from the start to the end of the bytes
 pub record BundleThere (h : Head) (s : List ℕ) (b : Facts) : Type 0 where
@@ -110,10 +87,3 @@ module _ (h : Head) (s : List ℕ) (b : Facts) (e : checkBundle h s ≡ gives b)
 
   pub accepted-count : length (factsOf s b) ≡ b .count
   accepted-count = bundle-there .count
-
-  -- a later pass that takes any predicate reads every one of them, and never refuses
-  pub accepted-pass : Run (λ _. true) s none (factsOf s b) (b .start) (bundle-there .end)
-  accepted-pass = any-run (predicateKnown h) s (bundle-there .run)
-
-  pub accepted-numbered : (k : ℕ) (d : Fact) → k < b .count → FactNumbered s (getD (factsOf s b) k d)
-  accepted-numbered k d few = run-numbered (bundle-there .run) k d (omega (arith, bundle-there .count))

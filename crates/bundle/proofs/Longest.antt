@@ -1,32 +1,32 @@
 -- "no valid file is over 28,674 bytes", and the reading of a longer one looks at no byte past them: two bytes of the count,
 -- then at most seven for each of 4,096 facts, since a declared predicate has one byte.
 use Prim.Native.Nat.{ℕ, zero, suc, _+_, _-_, _*_, _≤_, _<_}
-use mathlib.Core.Path.{_≡_, refl, sym, ap, _∙_}
+use mathlib.Core.Path.{_≡_, refl}
 use mathlib.Core.Bool.{Bool, true, false, cond}
 use mathlib.Core.List.{List}
-use lib.ListN.{length, take, drop}
-use lib.Seq.{take-take, take-add, drop-at, length-take-le}
+use lib.ListN.{length, take}
 use lib.Dec.{ltb}
 use native.Mathlib.Omega.{arith}
 use borrow.Author.Tests.{lt-ltb, ltb-true, ltb-false}
-use Rattle.number.specs.Answer.{Answer, Read, _then_}
-use Rattle.number.specs.Answer.Answer.{gives, refuses}
-use Rattle.number.specs.Number.{numberAt, bytesOf}
-use Rattle.number.proofs.Laws.{Bytes, bounds, one-form, from-three-bytes}
-use Rattle.number.proofs.Writing.{by-form, size-1}
+use Rattle.number.specs.Answer.{Read, _then_}
+use Rattle.number.specs.Answer.Answer.{gives}
+use Rattle.number.specs.Number.{numberAt}
+use Rattle.number.proofs.Answers.{then-same}
+use Rattle.number.proofs.Laws.{Bytes, two-bytes, bounds, one-form, one-byte, same-number}
 use Rattle.site.specs.declared.fact.Fact.{Fact}
 use Rattle.site.specs.Codes.{predicateDeclared}
 use Rattle.site.specs.Items.{countAt, codeAt, endAt}
 use Rattle.site.specs.Limits.{mostFacts, mostNumber, mostRoles, mostThing}
+use Rattle.site.proofs.There.{count-there, code-there, same-count, same-code}
 use Rattle.rules.specs.declared.head.Head.{Head}
 use Rattle.bundle.specs.Bundle.{Last, factAt, factsFrom, predicateKnown, checkBundle}
 use Rattle.bundle.specs.Bundle.Last.{none, after}
 use Rattle.bundle.specs.Told.{factRest}
 use Rattle.bundle.specs.declared.facts.Facts.{Facts}
-use Rattle.bundle.proofs.Runs.{code-there, ObjectThere, FactThere, fact-there, fact-by-rest, Run, walk-there}
+use Rattle.bundle.proofs.Runs.{ObjectThere, FactThere, fact-there, fact-by-rest, Run, walk-there}
 use Rattle.bundle.proofs.Runs.ObjectThere.{of-concept, of-role}
 use Rattle.bundle.proofs.Runs.Run.{stop, more}
-use Rattle.bundle.proofs.Accepted.{count-there, bundle-there}
+use Rattle.bundle.proofs.Accepted.{bundle-there}
 
 -- "no valid file is over 28,674 bytes"
 abbrev pub longest : ℕ
@@ -41,15 +41,12 @@ declared-low concepts roles p h = by-test (ltb p 64) refl
     by-test true is e = omega (arith, ltb-true p 64 is)
     by-test false is e = omega (arith, ltb-false p 64 is, ltb-true (p - 64) roles e)
 
-two-bytes : (v : ℕ) → v < 16384 → length (bytesOf v) ≤ 2
-two-bytes v h = by-form v (λ l. length l ≤ 2) (λ k. omega arith) (λ k l. omega arith) (λ k. absurd (omega arith))
-
 -- how far a fact, a run and a bundle reach
 module _ (s : List ℕ) (bytes : Bytes s) where
   after-predicate : (h : Head) (at : ℕ) (p : Read ℕ) → h .roles ≤ mostRoles → numberAt s at mostNumber 1 ≡ gives p → predicateKnown h (p .value) ≡ true → p .next ≡ at + 1
   after-predicate h at p few e known =
       let low : p .value < 96 = declared-low (h .concepts) (h .roles) (p .value) few known in
-      omega (arith, one-form s at mostNumber 1 (p .value) (p .next) e bytes .size, size-1 (p .value) (omega arith))
+      one-byte s at mostNumber 1 (p .value) (p .next) e bytes (omega arith)
 
   object-near : {place : ℕ} {f : Fact} {next : ℕ} → ObjectThere s place f next → next ≤ place + 3
   object-near (of-concept is zero-object place-is) = omega arith
@@ -79,39 +76,19 @@ module _ (s : List ℕ) (bytes : Bytes s) where
         let within = count-there s 0 mostFacts 1 n e .within in
         omega (arith, run-near (w .run), w .count, start-near n e)
 
--- answers that are the same as far as they go
-pub then-same : {A B : Type 0} (a : Answer A) (k k′ : A → Answer B) → ((x : A) → a ≡ gives x → k x ≡ k′ x) → (a then k) ≡ (a then k′)
-then-same (gives x) k k′ same = same x refl
-then-same (refuses r) k k′ same = refl
-
-window : (l : List ℕ) (at n : ℕ) → at ≤ length l → drop at (take (at + n) l) ≡ take n (drop at l)
-window l at n h = rw (take-add at n l) (drop-at (take at l) (take n (drop at l)) at (length-take-le at l h))
-
-module _ (s t : List ℕ) (n : ℕ) (agree : take n s ≡ take n t) (in-s : n ≤ length s) (in-t : n ≤ length t) where
-  same-window : (at : ℕ) → at + 3 ≤ n → take 3 (drop at s) ≡ take 3 (drop at t)
-  same-window at h =
-      sym (window s at 3 (omega arith))
-      ∙ ap (drop at) (sym (take-take (at + 3) n s h) ∙ ap (take (at + 3)) agree ∙ take-take (at + 3) n t h)
-      ∙ window t at 3 (omega arith)
-
-  same-number : (at most side : ℕ) → at + 3 ≤ n → numberAt s at most side ≡ numberAt t at most side
-  same-number at most side h = from-three-bytes s t at most side (same-window at h)
-
-  same-code : (at : ℕ) (known : ℕ → Bool) → at + 3 ≤ n → codeAt s at known 1 ≡ codeAt t at known 1
-  unfolding codeAt
-  same-code at known h = rw (same-number at mostNumber 1 h)
-
+-- files that agree on their first n bytes
+module _ (s t : List ℕ) (n : ℕ) (agree : take n s ≡ take n t) where
   same-rest : (predicate at : ℕ) → at + 6 ≤ n → factRest s predicate at ≡ factRest t predicate at
   unfolding factRest
   same-rest predicate at h =
-      rw (← (same-number at mostThing 1 (omega arith)))
+      rw (← (same-number s t n agree at (omega arith) mostThing 1))
       (then-same (numberAt s at mostThing 1) _ _
-      (λ a e. rw (same-number (a .next) mostThing 1 (omega (arith, bounds s at mostThing 1 (a .value) (a .next) e .near)))))
+      (λ a e. rw (same-number s t n agree (a .next) (omega (arith, bounds s at mostThing 1 (a .value) (a .next) e .near)) mostThing 1)))
 
   module _ (bytes : Bytes s) (h : Head) (few : h .roles ≤ mostRoles) where
     same-fact : (at : ℕ) → at + 7 ≤ n → factAt (predicateKnown h) s at ≡ factAt (predicateKnown h) t at
     same-fact at k =
-        rw (fact-by-rest (predicateKnown h) s at, fact-by-rest (predicateKnown h) t at, ← (same-code at (predicateKnown h) (omega arith)))
+        rw (fact-by-rest (predicateKnown h) s at, fact-by-rest (predicateKnown h) t at, ← (same-code s t n agree at (omega arith) (predicateKnown h) 1))
         (then-same (codeAt s at (predicateKnown h) 1) _ _
         (λ p e.
         let c = code-there s at (predicateKnown h) 1 p e in
@@ -141,13 +118,13 @@ module _ (h : Head) (few : h .roles ≤ mostRoles) where
 
     -- a longer one's answer is that of its first 28,675 bytes
     pub past-longest : Bytes s → take (longest + 1) s ≡ take (longest + 1) t → checkBundle h s ≡ checkBundle h t
-    unfolding checkBundle countAt
+    unfolding checkBundle
     past-longest bytes agree =
-        rw (← (same-number s t (longest + 1) agree long-s long-t 0 mostNumber 1 (omega arith)))
+        rw (← (same-count s t (longest + 1) agree 0 (omega arith) mostFacts 1))
         (then-same (countAt s 0 mostFacts 1) _ _
         (λ m e.
         let within = count-there s 0 mostFacts 1 m e .within in
         let start = start-near s bytes h few m e in
-        rw (← (same-facts s t (longest + 1) agree long-s long-t bytes h few none (m .value) (m .next) (omega arith)))
+        rw (← (same-facts s t (longest + 1) agree bytes h few none (m .value) (m .next) (omega arith)))
         (then-same (factsFrom (predicateKnown h) s none (m .value) (m .next)) _ _
         (λ end f. rw (after-both end (walk-near s bytes h few m end e f))))))

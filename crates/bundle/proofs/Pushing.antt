@@ -15,6 +15,7 @@ use Rattle.number.proofs.Writing.{picked}
 use Rattle.site.specs.declared.fact.Fact.{Fact}
 use Rattle.site.specs.Limits.{mostFacts, mostRoles}
 use Rattle.site.specs.Lists.{each}
+use Rattle.site.proofs.Lists.{or-left}
 use Rattle.rules.specs.declared.head.Head.{Head}
 use Rattle.bundle.specs.Bundle.{Last, factBytes}
 use Rattle.bundle.specs.Bundle.Last.{after}
@@ -55,23 +56,20 @@ module _ (room : ℕ) (w : Writing) (f : Fact) (z : w .fault ≡ 0) where
   placing : Placing room (w .at) (w .short) f (placed room w f)
   placing = placing-by (w .short) (leb (w .at + length (factBytes f)) room) refl refl
 
-pub or-yes : (a b : Bool) → a ≡ true → (a || b) ≡ true
-or-yes a b e = rw e
-
 pub or-rest : (a b : Bool) → a ≡ false → (a || b) ≡ b
 or-rest a b e = rw e
 
 module _ (room : ℕ) (w w′ : Writing) (f : Fact) (rest : ℕ) where
   short-more : Placing room (w .at) (w .short) f w′ → (w′ .short || ltb room (w′ .at + rest)) ≡ (w .short || ltb room (w .at + (length (factBytes f) + rest)))
-  short-more (was-short s s′) = or-yes _ _ s′ ∙ sym (or-yes _ _ s)
-  short-more (is-short s over s′) = or-yes _ _ s′ ∙ sym (or-rest _ _ s ∙ lt-ltb room _ (omega arith))
+  short-more (was-short s s′) = or-left _ _ s′ ∙ sym (or-left _ _ s)
+  short-more (is-short s over s′) = or-left _ _ s′ ∙ sym (or-rest _ _ s ∙ lt-ltb room _ (omega arith))
   short-more (has-room s fits s′ there) =
       let e : w′ .at + rest ≡ w .at + (length (factBytes f) + rest) = omega arith in
       or-rest _ _ s′ ∙ ap (ltb room) e ∙ sym (or-rest _ _ s)
 
   place-more : Placing room (w .at) (w .short) f w′ → (w′ .short || ltb room (w′ .at + rest)) ≡ false → w′ .at + rest ≡ w .at + (length (factBytes f) + rest)
-  place-more (was-short s s′) e = absurd (true≢false (sym (or-yes _ _ s′) ∙ e))
-  place-more (is-short s over s′) e = absurd (true≢false (sym (or-yes _ _ s′) ∙ e))
+  place-more (was-short s s′) e = absurd (true≢false (sym (or-left _ _ s′) ∙ e))
+  place-more (is-short s over s′) e = absurd (true≢false (sym (or-left _ _ s′) ∙ e))
   place-more (has-room s fits s′ there) e = omega arith
 
 -- what a pass without faults comes to
@@ -91,7 +89,7 @@ module _ (h : Head) (room : ℕ) where
   passed-none w z inside = record { no-fault = z; room-short = by-test (w .short) refl; last-place = λ s. omega arith }
     where
       by-test : (t : Bool) → w .short ≡ t → w .short ≡ (w .short || ltb room (w .at + 0))
-      by-test true s = s ∙ sym (or-yes _ _ s)
+      by-test true s = s ∙ sym (or-left _ _ s)
       by-test false s = s ∙ sym (or-rest _ _ s ∙ le-ltb room (w .at + 0) (omega (arith, inside s)))
 
   passed-more : (w w′ : Writing) (f : Fact) (fs : List Fact) → Placing room (w .at) (w .short) f w′ → Passed h room w′ fs → stateAfter h room w (f ∷ fs) ≡ stateAfter h room w′ fs

@@ -1,34 +1,23 @@
 -- Facts that are read one after the other: what a fact's numbers are where it is read, and an accepted walk as one list of such steps.
 -- A run is what acceptance gives, and a run gives acceptance; every law about a bundle's facts goes by the run's steps.
-use Prim.Native.Nat.{ℕ, zero, suc, _<_}
+use Prim.Native.Nat.{ℕ, zero, suc}
 use mathlib.Core.Path.{_≡_, refl, sym, ap, ap₂, _∙_}
 use mathlib.Core.Bool.{Bool, true, false, cond}
 use mathlib.Core.List.{List, [], _∷_}
-use lib.ListN.{length, getD}
+use lib.ListN.{length}
 use lib.Dec.{ltb}
-use native.Mathlib.Omega.{arith}
 use Rattle.number.specs.Answer.{Answer, Read, refusal, _then_}
 use Rattle.number.specs.Answer.Answer.{gives, refuses}
 use Rattle.number.specs.Number.{numberAt}
 use Rattle.site.specs.declared.fact.Fact.{Fact}
 use Rattle.site.specs.Items.{codeAt}
 use Rattle.site.specs.Kinds.{ofConcept}
-use Rattle.site.specs.Limits.{mostNumber, mostThing}
+use Rattle.site.specs.Limits.{mostThing}
+use Rattle.site.proofs.There.{code-there}
 use Rattle.bundle.specs.Bundle.{Last, factAt, ascends, factsFrom, factsIn}
 use Rattle.bundle.specs.Bundle.Last.{after}
 use Rattle.number.proofs.Answers.{given-once as same-given, passed, went}
 use Rattle.bundle.specs.Told.{factRest}
-
-pub record CodeThere (s : List ℕ) (at : ℕ) (known : ℕ → Bool) (side : ℕ) (p : Read ℕ) : Type 0 where
-  pub number : numberAt s at mostNumber side ≡ gives p
-  pub holds : known (p .value) ≡ true
-
-pub code-there : (s : List ℕ) (at : ℕ) (known : ℕ → Bool) (side : ℕ) (p : Read ℕ) → codeAt s at known side ≡ gives p → CodeThere s at known side p
-unfolding codeAt
-code-there s at known side p e =
-    let w = went (numberAt s at mostNumber side) (λ n. cond (known (n .value)) (gives n) (refuses (refusal 5 side at))) e in
-    let t = passed (known (w .value .value)) (gives (w .value)) (refusal 5 side at) (w .rest) in
-    record { number = w .first ∙ t .answer; holds = ap (λ m. known (m .value)) (sym (same-given (t .answer))) ∙ t .test }
 
 -- the object of a fact: none for a concept's, and a number for a role's
 pub data ObjectThere (s : List ℕ) (place : ℕ) (f : Fact) (next : ℕ) : Type 0 where
@@ -177,21 +166,3 @@ module _ (known : ℕ → Bool) (s : List ℕ) where
   unfolding factsIn
   run-reads stop = refl
   run-reads (more {f = f} {at = at} {next = next} there up run) = rw (fact-read (λ _. true) s at f next (any-there there)) (ap (λ l. f ∷ l) (run-reads run))
-
-  -- a pass that takes any predicate goes the same way
-  pub any-run : {last : Last} {fs : List Fact} {at end : ℕ} → Run known s last fs at end → Run (λ _. true) s last fs at end
-  any-run stop = stop
-  any-run (more there up run) = more (any-there there) up (any-run run)
-
--- the fact of each number, where a pass that takes any predicate reads it
-pub record FactNumbered (s : List ℕ) (f : Fact) : Type 0 where
-  pub place : ℕ
-  pub next : ℕ
-  pub read : factAt (λ _. true) s place ≡ gives (record { value = f; next = next })
-
-pub run-numbered : {known : ℕ → Bool} {s : List ℕ} {last : Last} {fs : List Fact} {at end : ℕ} → Run known s last fs at end
-    → (k : ℕ) (d : Fact) → k < length fs → FactNumbered s (getD fs k d)
-run-numbered stop k d h = absurd (omega arith)
-run-numbered {s = s} (more {f = f} {at = at} {next = next} there up run) zero d h =
-    record { place = at; next = next; read = fact-read (λ _. true) s at f next (any-there there) }
-run-numbered (more there up run) (suc k) d h = run-numbered run k d (omega arith)

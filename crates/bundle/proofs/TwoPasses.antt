@@ -15,6 +15,7 @@ use Rattle.number.proofs.Writing.{picked}
 use Rattle.site.specs.declared.fact.Fact.{Fact}
 use Rattle.site.specs.Limits.{mostFacts, mostRoles}
 use Rattle.site.specs.Lists.{each}
+use Rattle.site.proofs.Lists.{or-left}
 use Rattle.rules.specs.declared.head.Head.{Head}
 use Rattle.bundle.specs.Bundle.{factBytes, bundleOf}
 use Rattle.bundle.specs.Bundle.Last.{none}
@@ -24,7 +25,7 @@ use Rattle.bundle.specs.declared.writing.Writing.{Writing}
 use Rattle.bundle.proofs.Reading.{before-first}
 use Rattle.bundle.proofs.FactBytes.{sets-append}
 use Rattle.bundle.proofs.Faults.{Sound, placed-stays, judged-stays, stays, judgedOf, pass-judges}
-use Rattle.bundle.proofs.Pushing.{or-yes, or-rest, Passed, pass-measures, memory-next, pass-stores, sound-records}
+use Rattle.bundle.proofs.Pushing.{or-rest, Passed, pass-measures, memory-next, pass-stores, sound-records}
 
 -- what the two passes come to
 pub bundle-size : (facts : List Fact) → length (bundleOf facts) ≡ length (bytesOf (length facts)) + length (each factBytes facts)
@@ -38,7 +39,7 @@ short-whole : (room a b : ℕ) → (ltb room a || ltb room (a + b)) ≡ ltb room
 short-whole room a b = by-test (ltb room a) refl
   where
     by-test : (t : Bool) → ltb room a ≡ t → (ltb room a || ltb room (a + b)) ≡ ltb room (a + b)
-    by-test true is = or-yes _ _ is ∙ sym (lt-ltb room (a + b) (omega (arith, ltb-true room a is)))
+    by-test true is = or-left _ _ is ∙ sym (lt-ltb room (a + b) (omega (arith, ltb-true room a is)))
     by-test false is = or-rest _ _ is
 
 module _ (h : Head) (room : ℕ) (facts : List Fact) (sound-facts : Sound h none facts) (few-facts : length facts ≤ mostFacts) (storing : Bool) where
@@ -209,7 +210,7 @@ module _ (h : Head) (few : h .roles ≤ mostRoles) (out : List ℕ) (records : L
     records-by : (first : Writing) → firstState h (length out) records ≡ first → (t : Bool) → ltb 0 (first .fault) ≡ t → TwoPasses h out records (planRecords h (length out) records)
     records-by first is true f =
         let stops : recordsFrom h none 0 records ≡ refuses (refusal (first .fault) 2 (first .place)) = judged-all ∙ ap judgedOf is ∙ judged-stop first f in
-        let settles : settled first ≡ true = or-yes (ltb 0 (first .fault)) (first .short) f in
+        let settles : settled first ≡ true = or-left (ltb 0 (first .fault)) (first .short) f in
         rw (plan-within k, stops)
         (passes-stopped h out records first
         (ap (secondStart (length records) (length out)) is ∙ second-fault first (length records) out f) (ap settled is ∙ settles) f)

@@ -1,5 +1,5 @@
 -- Rows and counts: what one turn of the walk that marks the facts leaves to the facts that are left.
-use Prim.Native.Nat.{ℕ, suc, _+_, _-_, _^_, _≤_, _<_}
+use Prim.Native.Nat.{ℕ, suc, _+_, _-_, _≤_, _<_}
 use mathlib.Core.Path.{_≡_, refl, sym, ap, subst, _∙_}
 use mathlib.Core.Bool.{Bool, true, false, cond}
 use mathlib.Core.List.{List, [], _∷_, map}
@@ -204,9 +204,6 @@ module _ (t : Follows) where
 
       pub marking-in-pair₀ : n ≤ length pair₀ → i < length pair₀
       marking-in-pair₀ room = omega (arith, so .place, so .tally .counted)
-
-      pub marking-next : n ≤ mostFacts → i + 1 < 2 ^ 64
-      marking-next few = omega (arith, so .place, so .tally .counted)
 
       module _ (e : FactRead) (is : factTold e ≡ factAt (λ _. true) s at) where
         pub marking-stops : (r : Refusal) → e ≡ NoFact r → Marks t whole row₀ pair₀ c row pair

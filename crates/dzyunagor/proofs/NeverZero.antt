@@ -1,7 +1,7 @@
 -- No refusal of any operation has number 0. C reads number 0 as "not refused", so this is what makes the two cases differ: by the number alone a caller knows whether the operation did its work, and if it did not, which refusal it is.
 use Prim.Native.Nat.{ℕ, zero, suc, _+_, _≤_}
-use mathlib.Core.Path.{_≡_, refl, sym, ap, subst}
-use mathlib.Core.Bool.{Bool, cond, _&&_}
+use mathlib.Core.Path.{_≡_, refl, sym, subst}
+use mathlib.Core.Bool.{cond, _&&_}
 use mathlib.Core.List.{List, [], _∷_, map}
 use lib.ListN.{length}
 use lib.Dec.{ltb, leb, eqb}
@@ -10,19 +10,17 @@ use borrow.Author.Tests.{eqb-false}
 use denote.Ref.{now}
 use Rattle.number.specs.Answer.{Answer, refusal, _then_, over}
 use Rattle.number.specs.Answer.Answer.{gives, refuses}
-use Rattle.number.specs.Number.{numberAt}
 use Rattle.number.specs.declared.refusal.Refusal.{Refusal}
-use Rattle.number.proofs.Answers.{never}
-use Rattle.number.proofs.Laws.{refused-how}
+use Rattle.number.proofs.Refusing.{Refuses, refuses-gives, refuses-so, refuses-test, refuses-tested, refuses-then, refuses-over}
 use Rattle.number.proofs.Writing.{picked}
 use Rattle.site.specs.declared.fact.Fact.{Fact}
 use Rattle.site.specs.Codes.{conceptDeclared, roleDeclared}
-use Rattle.site.specs.Items.{countAt, codeAt, endAt}
-use Rattle.site.specs.Limits.{mostNumber, mostThing, mostFacts}
+use Rattle.site.specs.Limits.{mostThing, mostFacts}
 use Rattle.rules.specs.declared.head.Head.{Head}
 use Rattle.rules.specs.RuleFile.{checkRules, siteOf}
 use Rattle.rules.proofs.Refusals.{refused-in-rules}
-use Rattle.bundle.specs.Bundle.{Last, factAt, factsFrom, ascends, predicateKnown, checkBundle, readBundle, factsOf, bundleOf}
+use Rattle.bundle.proofs.Refusals.{refused-in-bundle}
+use Rattle.bundle.specs.Bundle.{Last, checkBundle, readBundle, factsOf, bundleOf}
 use Rattle.bundle.specs.Bundle.Last.{none, after}
 use Rattle.bundle.specs.Records.{roomFor, recordFault, recordsFrom, planRecords}
 use Rattle.follows.specs.Tables.{Follows, followsOf}
@@ -47,73 +45,22 @@ use Rattle.dzyunagor.specs.declared.shapes.DzyYield.{DzyYield}
 
 -- an answer whose refusal, if it is one, has a number from 1 on
 abbrev pub Numbered : {A : Type 0} → Answer A → Type 0
-Numbered a = (r : Refusal) → a ≡ refuses r → 1 ≤ r .number
-
--- ---- through what answers are made of
-module _ {A : Type 0} where
-  same-refused : {q r : Refusal} → _≡_ {A = Answer A} (refuses q) (refuses r) → q ≡ r
-  same-refused e = cc
-
-  of-gives : (x : A) → Numbered (gives x)
-  of-gives x r e = absurd (never (sym e))
-
-  of-refuses : (q : Refusal) → 1 ≤ q .number → Numbered {A = A} (refuses q)
-  of-refuses q low r e = subst (λ (z : Refusal). 1 ≤ z .number) (same-refused e) low
-
-  of-test : (t : Bool) (x y : Answer A) → Numbered x → Numbered y → Numbered (cond t x y)
-  of-test t x y nx ny = picked Numbered x y t (λ e. nx) (λ e. ny)
-
-  -- a test that refuses what fails
-  of-tested : (t : Bool) (x : A) (q : Refusal) → 1 ≤ q .number → Numbered (cond t (gives x) (refuses q))
-  of-tested t x q low = of-test t (gives x) (refuses q) (of-gives x) (of-refuses q low)
-
-module _ {A B : Type 0} where
-  of-then : (a : Answer A) (k : A → Answer B) → Numbered a → ((x : A) → Numbered (k x)) → Numbered (a then k)
-  of-then (gives x) k first rest = rest x
-  of-then (refuses q) k first rest = λ r e. first r (ap refuses (same-refused e))
-
-  of-over : (f : A → B) (a : Answer A) → Numbered a → Numbered (over f a)
-  of-over f (gives x) first = of-gives (f x)
-  of-over f (refuses q) first = λ r e. first r (ap refuses (same-refused e))
+Numbered a = Refuses (λ r. 1 ≤ r .number) a
 
 -- ---- the rules, and the bundle
 pub rules-numbered : (s : List ℕ) → Numbered (checkRules s)
 rules-numbered s r e = refused-in-rules s r e .low
 
-module _ (s : List ℕ) where
-  number-numbered : (at most : ℕ) → Numbered (numberAt s at most 1)
-  number-numbered at most r e = refused-how at most 1 r s e .low
-
-  fact-numbered : (known : ℕ → Bool) (at : ℕ) → Numbered (factAt known s at)
-  unfolding factAt codeAt
-  fact-numbered known at =
-      of-then (codeAt s at known 1) _ (of-then (numberAt s at mostNumber 1) _ (number-numbered at mostNumber) (λ n. of-tested (known (n .value)) n (refusal 5 1 at) (omega arith)))
-      (λ p.
-      of-then (numberAt s (p .next) mostThing 1) _ (number-numbered (p .next) mostThing)
-      (λ a. of-test (ltb (p .value) 64) _ _ (of-gives _) (of-then (numberAt s (a .next) mostThing 1) _ (number-numbered (a .next) mostThing) (λ b. of-gives _))))
-
-  facts-numbered : (known : ℕ → Bool) (last : Last) (n at : ℕ) → Numbered (factsFrom known s last n at)
-  unfolding factsFrom
-  facts-numbered known last zero at = of-gives at
-  facts-numbered known last (suc n) at =
-      of-then (factAt known s at) _ (fact-numbered known at)
-      (λ f. of-test (ascends last (f .value)) _ _ (facts-numbered known (after (f .value)) n (f .next)) (of-refuses (refusal 8 1 at) (omega arith)))
-
-  pub bundle-numbered : (h : Head) → Numbered (checkBundle h s)
-  unfolding checkBundle countAt endAt
-  bundle-numbered h =
-      of-then (countAt s 0 mostFacts 1) _ (of-then (numberAt s 0 mostNumber 1) _ (number-numbered 0 mostNumber) (λ n. of-tested (leb (n .value) mostFacts) n (refusal 4 1 0) (omega arith)))
-      (λ n.
-      of-then (factsFrom (predicateKnown h) s none (n .value) (n .next)) _ (facts-numbered (predicateKnown h) none (n .value) (n .next))
-      (λ end. of-then (endAt s end 1) _ (of-test (ltb end (length s)) _ _ (of-refuses (refusal 7 1 end) (omega arith)) (of-gives end)) (λ at. of-gives _)))
+pub bundle-numbered : (s : List ℕ) (h : Head) → Numbered (checkBundle h s)
+bundle-numbered s h r e = refused-in-bundle s h r e .low
 
 -- ---- records: a fault that is not 0 is the refusal's number
 records-numbered : (h : Head) (last : Last) (k : ℕ) (fs : List Fact) → Numbered (recordsFrom h last k fs)
 unfolding recordsFrom
-records-numbered h last k [] = of-gives k
+records-numbered h last k [] = refuses-gives _ k
 records-numbered h last k (f ∷ fs) =
     picked Numbered _ _ (eqb (recordFault h last f) 0) (λ e. records-numbered h (after f) (k + 1) fs)
-    (λ e. of-refuses (refusal (recordFault h last f) 2 k) (from-one (recordFault h last f) (eqb-false (recordFault h last f) 0 e)))
+    (λ e. refuses-so _ (refusal (recordFault h last f) 2 k) (from-one (recordFault h last f) (eqb-false (recordFault h last f) 0 e)))
   where
     from-one : (n : ℕ) → (n ≡ 0 → ⊥) → 1 ≤ n
     from-one zero other = absurd (other refl)
@@ -121,19 +68,19 @@ records-numbered h last k (f ∷ fs) =
 
 room-numbered : (room : ℕ) (bytes : List ℕ) → Numbered (roomFor room bytes)
 unfolding roomFor
-room-numbered room bytes = of-tested (leb (length bytes) room) bytes (refusal 9 2 0) (omega arith)
+room-numbered room bytes = refuses-tested _ (leb (length bytes) room) bytes (refusal 9 2 0) (omega arith)
 
 plan-numbered : (h : Head) (room : ℕ) (records : List Fact) → Numbered (planRecords h room records)
 unfolding planRecords
 plan-numbered h room records =
-    of-then (cond (leb (length records) mostFacts) (recordsFrom h none 0 records) (refuses (refusal 4 2 0))) _
-    (of-test (leb (length records) mostFacts) _ _ (records-numbered h none 0 records) (of-refuses (refusal 4 2 0) (omega arith))) (λ k. room-numbered room (bundleOf records))
+    refuses-then _ (cond (leb (length records) mostFacts) (recordsFrom h none 0 records) (refuses (refusal 4 2 0))) _
+    (refuses-test _ (leb (length records) mostFacts) _ _ (records-numbered h none 0 records) (refuses-so _ (refusal 4 2 0) (omega arith))) (λ k e. room-numbered room (bundleOf records))
 
 -- ---- each operation
 module _ (rules : List ℕ) where
   -- "rules, then .."
   after-rules : {A : Type 0} (k : Head → Answer A) → ((h : Head) → Numbered (k h)) → Numbered (checkRules rules then k)
-  after-rules k = of-then (checkRules rules) k (rules-numbered rules)
+  after-rules k rest = refuses-then _ (checkRules rules) k (rules-numbered rules) (λ h e. rest h)
 
   pub write-numbered : (room : ℕ) (row : List Record) → Numbered (writeRow rules room row)
   unfolding writeRow
@@ -142,47 +89,47 @@ module _ (rules : List ℕ) where
   module _ (bundle : List ℕ) where
     pub opening-numbered : Numbered (opening rules bundle)
     unfolding opening
-    opening-numbered = after-rules _ (λ h. of-then (checkBundle h bundle) _ (bundle-numbered bundle h) (λ b. of-gives _))
+    opening-numbered = after-rules _ (λ h. refuses-then _ (checkBundle h bundle) _ (bundle-numbered bundle h) (λ b e. refuses-gives _ _))
 
     given-numbered : {A : Type 0} (k : Head → Follows → List Fact → Answer A) → ((h : Head) (t : Follows) (facts : List Fact) → Numbered (k h t facts)) → Numbered (given rules bundle k)
     unfolding given readBundle
     given-numbered k rest =
         after-rules _
-        (λ h. of-then (readBundle h bundle) _ (of-over (factsOf bundle) (checkBundle h bundle) (bundle-numbered bundle h)) (λ facts. rest h (followsOf (siteOf rules h)) facts))
+        (λ h. refuses-then _ (readBundle h bundle) _ (refuses-over _ (factsOf bundle) (checkBundle h bundle) (bundle-numbered bundle h)) (λ facts e. rest h (followsOf (siteOf rules h)) facts))
 
     pub marking-numbered : (m p : ℕ) → Numbered (marking rules bundle m p)
     unfolding marking roomForMarks
     marking-numbered m p =
-        given-numbered _ (λ h t facts. of-then (roomForMarks m p facts) _ (of-tested (leb (length facts) m && leb (length facts) p) facts (refusal 9 2 0) (omega arith)) (λ _. of-gives _))
+        given-numbered _ (λ h t facts. refuses-then _ (roomForMarks m p facts) _ (refuses-tested _ (leb (length facts) m && leb (length facts) p) facts (refusal 9 2 0) (omega arith)) (λ _ e. refuses-gives _ _))
 
     pub counting-numbered : Numbered (counting rules bundle)
     unfolding counting
-    counting-numbered = given-numbered _ (λ h t facts. of-gives _)
+    counting-numbered = given-numbered _ (λ h t facts. refuses-gives _ _)
 
     pub asking-numbered : (n : ℕ) → Numbered (asking rules bundle n)
     unfolding asking
-    asking-numbered n = given-numbered _ (λ h t facts. of-tested (ltb n (length facts)) _ (refusal 10 2 0) (omega arith))
+    asking-numbered n = given-numbered _ (λ h t facts. refuses-tested _ (ltb n (length facts)) _ (refusal 10 2 0) (omega arith))
 
     thing-numbered : (a : ℕ) → Numbered (thingKnown a)
-    thing-numbered a = of-tested (leb a mostThing) a (refusal 3 2 0) (omega arith)
+    thing-numbered a = refuses-tested _ (leb a mostThing) a (refusal 3 2 0) (omega arith)
 
     pub having-numbered : (code thing : ℕ) → Numbered (having rules bundle code thing)
     unfolding having
     having-numbered code thing =
         given-numbered _
         (λ h t facts.
-        of-then (cond (conceptDeclared (h .concepts) (h .roles) code) (gives code) (refuses (refusal 5 2 0))) _
-        (of-tested (conceptDeclared (h .concepts) (h .roles) code) code (refusal 5 2 0) (omega arith))
-        (λ _. of-then (thingKnown thing) _ (thing-numbered thing) (λ a. of-gives _)))
+        refuses-then _ (cond (conceptDeclared (h .concepts) (h .roles) code) (gives code) (refuses (refusal 5 2 0))) _
+        (refuses-tested _ (conceptDeclared (h .concepts) (h .roles) code) code (refusal 5 2 0) (omega arith))
+        (λ _ e. refuses-then _ (thingKnown thing) _ (thing-numbered thing) (λ a f. refuses-gives _ _)))
 
     pub joining-numbered : (code from to : ℕ) → Numbered (joining rules bundle code from to)
     unfolding joining
     joining-numbered code from to =
         given-numbered _
         (λ h t facts.
-        of-then (cond (roleDeclared (h .roles) code) (gives code) (refuses (refusal 5 2 0))) _
-        (of-tested (roleDeclared (h .roles) code) code (refusal 5 2 0) (omega arith))
-        (λ _. of-then (thingKnown from) _ (thing-numbered from) (λ a. of-then (thingKnown to) _ (thing-numbered to) (λ b. of-gives _))))
+        refuses-then _ (cond (roleDeclared (h .roles) code) (gives code) (refuses (refusal 5 2 0))) _
+        (refuses-tested _ (roleDeclared (h .roles) code) code (refusal 5 2 0) (omega arith))
+        (λ _ e. refuses-then _ (thingKnown from) _ (thing-numbered from) (λ a f. refuses-then _ (thingKnown to) _ (thing-numbered to) (λ b g. refuses-gives _ _))))
 
     pub keeping-numbered : (room : ℕ) → Numbered (keeping rules bundle room)
     unfolding keeping
@@ -191,13 +138,13 @@ module _ (rules : List ℕ) where
     pub hand-numbered : (room : ℕ) → Numbered (handRecords rules bundle room)
     unfolding handRecords handOut
     hand-numbered room =
-        of-over _ (handOut rules bundle room)
+        refuses-over _ _ (handOut rules bundle room)
         (after-rules _
-        (λ h. of-then (checkBundle h bundle) _ (bundle-numbered bundle h) (λ b. of-tested (leb (b .count) room) b (refusal 9 2 0) (omega arith))))
+        (λ h. refuses-then _ (checkBundle h bundle) _ (bundle-numbered bundle h) (λ b e. refuses-tested _ (leb (b .count) room) b (refusal 9 2 0) (omega arith))))
 
     pub start-numbered : Numbered (readerStart rules bundle)
     unfolding readerStart
-    start-numbered = after-rules _ (λ h. of-over _ (checkBundle h bundle) (bundle-numbered bundle h))
+    start-numbered = after-rules _ (λ h. refuses-over _ _ (checkBundle h bundle) (bundle-numbered bundle h))
 
 pub step-numbered : (s : List ℕ) (at : ℕ) → Numbered (readerStep s at .yields)
 step-numbered s at r e = step-refused-how s at r e .low

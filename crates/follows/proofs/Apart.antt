@@ -20,7 +20,7 @@ use Rattle.follows.specs.Tables.{Pair, Relation, writtenOf, arrow, mates
 use Rattle.follows.specs.Closed.Closed.{here, one, on}
 use Rattle.follows.proofs.Closing.{Reaches}
 use Rattle.follows.proofs.Declares.{node-in}
-use Rattle.follows.proofs.Laws.{turnedNode, declared-turned, one-of-declared, declared-one-of, included-declared, excluded-declared, included-sort, excluded-within}
+use Rattle.follows.proofs.Laws.{turnedNode, included-turn, declared-turned, one-of-declared, declared-one-of, included-declared, excluded-declared, included-sort, excluded-within}
 use Rattle.follows.proofs.Arrows.{Leads, both, roles-pair, arrow-included, included-leads}
 
 -- step 8's three are mates
@@ -154,14 +154,9 @@ module _ (s : Site) where
   kept-down i (by-written a) = by-written (record { rule = a .rule; among = a .among; pair = a .pair; of-rule = a .of-rule; ways = across-down i (a .ways) })
   kept-down i (by-void w h k v) = by-void w (step-2 i h) k v
 
-  -- what a role is included in is a role, and the inverses are included alike
-  included-turned : (q : BasicRole) (y : Node) → Included s (role q) y → Included s (role (turned q)) (turnedNode y)
-  included-turned q (role r) h = step-3 h
-  included-turned q (concept b) h = absurd (true≢false (included-sort s h))
-
   across-turned : (p q : BasicRole) {w : Pair} → Across (role p) (role q) w → Across (role (turned p)) (role (turned q)) (both turnedNode w)
-  across-turned p q {w} (straight h k) = straight (included-turned p (w .left) h) (included-turned q (w .right) k)
-  across-turned p q {w} (crossed h k) = crossed (included-turned p (w .right) h) (included-turned q (w .left) k)
+  across-turned p q {w} (straight h k) = straight (included-turn s h) (included-turn s k)
+  across-turned p q {w} (crossed h k) = crossed (included-turn s h) (included-turn s k)
 
   module _ (lawful : Lawful s) where
     -- mates lead on

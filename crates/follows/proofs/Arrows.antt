@@ -4,8 +4,7 @@ use mathlib.Core.Path.{_≡_, refl, sym, ap, subst, subst₂, _∙_}
 use mathlib.Core.Bool.{true, _&&_}
 use mathlib.Core.List.{List, List·Memᴰ, List·Memᴰ·head, List·Memᴰ·tail, List·Memᴰ·not-nil}
 use Rattle.site.specs.Kinds.{BasicRole, Node, Rule, Site, declared, sameNode}
-use Rattle.site.specs.Kinds.BasicConcept.{some}
-use Rattle.site.specs.Kinds.Node.{concept, role}
+use Rattle.site.specs.Kinds.Node.{role}
 use Rattle.site.specs.Kinds.Rule.{included, disjoint, roleIncluded, roleDisjoint, functional}
 use Rattle.site.specs.Lists.{any}
 use Rattle.site.proofs.Lists.{any-found, any-of, and-left, and-right, and-both}
@@ -20,7 +19,7 @@ use Rattle.follows.specs.Closed.Closed.{here, one, on}
 use Rattle.follows.proofs.Rows.{On}
 use Rattle.follows.proofs.Closing.{Reaches}
 use Rattle.follows.proofs.Declares.{node-in, node-out}
-use Rattle.follows.proofs.Laws.{turnedNode, someNode, declared-turned, included-declared}
+use Rattle.follows.proofs.Laws.{turnedNode, someNode, turned-kept, some-kept, included-declared}
 
 -- where an arrow comes from
 pub record Given (rules : List Rule) (x y : Node) : Type 0 where
@@ -61,10 +60,6 @@ both f a = record { left = f (a .left); right = f (a .right) }
 
 pub roles-pair : {p q p′ q′ : BasicRole} → p ≡ p′ → q ≡ q′ → _≡_ {A = Pair} (record { left = role p; right = role q }) (record { left = role p′; right = role q′ })
 roles-pair e f = λ i. record { left = role (e i); right = role (f i) }
-
-somes-pair : {p q p′ q′ : BasicRole} → p ≡ p′ → q ≡ q′
-    → _≡_ {A = Pair} (record { left = concept (some p); right = concept (some q) }) (record { left = concept (some p′); right = concept (some q′) })
-somes-pair e f = λ i. record { left = concept (some (e i)); right = concept (some (f i)) }
 
 -- the arrows of a rule, turned and of partners, are its arrows
 arrows-turned : (r : Rule) {a : Pair} → List·Memᴰ a (arrowsOf r) → List·Memᴰ (both turnedNode a) (arrowsOf r)
@@ -142,19 +137,11 @@ module _ (s : Site) where
     leads-taken : {x y : Node} → Leads x y → Leads (f x) (f y)
     leads-taken h = closed-into f node-taken (λ x y o. one (arrow-taken x y o)) h
 
-  turned-kept : (x : Node) → declared s x ≡ true → declared s (turnedNode x) ≡ true
-  turned-kept (concept b) e = e
-  turned-kept (role q) e = declared-turned s q e
-
-  some-kept : (x : Node) → declared s x ≡ true → declared s (someNode x) ≡ true
-  some-kept (concept b) e = e
-  some-kept (role q) e = e
-
   pub leads-turned : {x y : Node} → Leads x y → Leads (turnedNode x) (turnedNode y)
-  leads-turned h = leads-taken turnedNode turned-kept (λ r a m. arrows-turned r m) h
+  leads-turned h = leads-taken turnedNode (turned-kept s) (λ r a m. arrows-turned r m) h
 
   pub leads-some : {x y : Node} → Leads x y → Leads (someNode x) (someNode y)
-  leads-some h = leads-taken someNode some-kept (λ r a m. arrows-some r m) h
+  leads-some h = leads-taken someNode (some-kept s) (λ r a m. arrows-some r m) h
 
   module _ (lawful : Lawful s) where
     rule-leads : {r : Rule} {x y : Node} → List·Memᴰ r (s .rules) → SaysIncluded r x y → Leads x y

@@ -1,20 +1,17 @@
 -- One turn of each walk over the rules: what has been added so far, and the rules that are left, are all the rules.
-use Prim.Native.Nat.{ℕ, suc, _-_, _/_, _^_, _<_, _≤_}
+use Prim.Native.Nat.{ℕ, _-_, _/_, _^_, _<_, _≤_}
 use native.Mathlib.Nat.{div-eq-of-lt}
 use lib.Pow.{pow-pos}
 use mathlib.Core.Path.{_≡_, refl, sym, ap, subst, _∙_}
 use mathlib.Core.Bool.{true, false, false≢true}
 use mathlib.Core.Logic.{_⊎_, inl, inr}
 use mathlib.Core.List.{List, [], _∷_, _++_, append-nil, append-assoc, List·Memᴰ, List·Memᴰ·head, List·Memᴰ·not-nil, List·Memᴰ·append-cases, List·Memᴰ·eq-of-singleton, Memᴰ·append-left, Memᴰ·append-right}
-use native.Mathlib.Omega.{arith}
 use lib.ListN.{length, replicate, length-replicate}
 use borrow.Author.Needs.{needs}
-use Rattle.number.specs.Answer.Answer.{gives, refuses}
 use Rattle.number.specs.declared.refusal.Refusal.{Refusal}
 use Rattle.site.specs.Kinds.{Rule}
 use Rattle.site.specs.Kinds.Rule.{functional}
 use Rattle.site.specs.Codes.{roleOf}
-use Rattle.site.specs.Items.{onward}
 use Rattle.site.specs.Lists.{each}
 use Rattle.site.specs.Told.{ruleTold}
 use Rattle.site.specs.declared.rule.Rule.{Rule as RuleCase}
@@ -23,6 +20,7 @@ use Rattle.rules.specs.Told.{ruleReadTold}
 use Rattle.rules.specs.declared.head.Head.{Head}
 use Rattle.rules.specs.declared.read.RuleRead.{RuleRead}
 use Rattle.rules.specs.declared.read.RuleRead.the-variants.{Read as RuleIs, Refused as RuleRefused}
+use Rattle.rules.proofs.Checking.{none-left, one-more, all-read}
 use Rattle.follows.specs.Bits.{bitOf, IsTable}
 use Rattle.follows.specs.Tables.{Pair, arrowsOf}
 use Rattle.follows.specs.Adding.{AddedAll, exclusionsOf, CameFunctional, FunctionalAdded}
@@ -38,32 +36,6 @@ blank-table t e = ap length e ∙ length-replicate {A = ℕ} 576 0
 pub zeros-table : IsTable (replicate 576 0)
 unfolding IsTable
 zeros-table = length-replicate {A = ℕ} 576 0
-
--- the rules that are left
-module _ (h : Head) (s : List ℕ) (n at : ℕ) where
-  module _ (more : 0 < n) where
-    turn : rulesIn h s n at ≡ onward (ruleAt h s at) (λ r. r .value ∷ rulesIn h s (n - 1) (r .next))
-    unfolding rulesIn
-    turn =
-        let e : n ≡ suc (n - 1) = omega arith in
-        ap (λ (k : ℕ). rulesIn h s k at) e
-
-    module _ (e : RuleRead) (is : ruleReadTold e ≡ ruleAt h s at) where
-      stopped : (r : Refusal) → e ≡ RuleRefused r → rulesIn h s n at ≡ []
-      stopped r z =
-          let f : ruleAt h s at ≡ refuses r = sym is ∙ ap ruleReadTold z in
-          rw (turn, f)
-
-      one-more : (rule : RuleCase) (next : ℕ) → e ≡ RuleIs rule next → rulesIn h s n at ≡ ruleTold rule ∷ rulesIn h s (n - 1) next
-      one-more rule next z =
-          let f : ruleAt h s at ≡ gives (record { value = ruleTold rule; next = next }) = sym is ∙ ap ruleReadTold z in
-          rw (turn, f)
-
-  none-left : n ≤ 0 → rulesIn h s n at ≡ []
-  unfolding rulesIn
-  none-left over =
-      let e : n ≡ 0 = omega arith in
-      ap (λ (k : ℕ). rulesIn h s k at) e
 
 split-on : {A : Type 0} (whole done : List A) (x : A) (rest : List A) → whole ≡ done ++ (x ∷ rest) → whole ≡ (done ++ (x ∷ [])) ++ rest
 split-on whole done x rest e = e ∙ sym (append-assoc done (x ∷ []) rest)
@@ -158,22 +130,22 @@ module _ (h : Head) (s : List ℕ) where
 
       module _ (r : Refusal) (refused : e ≡ RuleRefused r) where
         pub arrows-stop : (old new : List ℕ) → AddedSoFar arrowsOf all (rulesIn h s n at) old new → AddedAll (each arrowsOf all) old new
-        arrows-stop old new p = so-far-end arrowsOf all old new (subst (λ l. AddedSoFar arrowsOf all l old new) (stopped h s n at more e is r refused) p)
+        arrows-stop old new p = so-far-end arrowsOf all old new (subst (λ l. AddedSoFar arrowsOf all l old new) (none-left h s n at more e is r refused) p)
 
         pub exclusions-stop : (old new : List ℕ) → AddedSoFar exclusionsOf all (rulesIn h s n at) old new → AddedAll (each exclusionsOf all) old new
-        exclusions-stop old new p = so-far-end exclusionsOf all old new (subst (λ l. AddedSoFar exclusionsOf all l old new) (stopped h s n at more e is r refused) p)
+        exclusions-stop old new p = so-far-end exclusionsOf all old new (subst (λ l. AddedSoFar exclusionsOf all l old new) (none-left h s n at more e is r refused) p)
 
         pub functionals-stop : (word : ℕ) → FunctionalSoFar all (rulesIn h s n at) word → FunctionalOf all word
-        functionals-stop word p = functional-end all word (subst (λ l. FunctionalSoFar all l word) (stopped h s n at more e is r refused) p)
+        functionals-stop word p = functional-end all word (subst (λ l. FunctionalSoFar all l word) (none-left h s n at more e is r refused) p)
 
     module _ (over : n ≤ 0) where
       pub arrows-end : (old new : List ℕ) → AddedSoFar arrowsOf all (rulesIn h s n at) old new → AddedAll (each arrowsOf all) old new
-      arrows-end old new p = so-far-end arrowsOf all old new (subst (λ l. AddedSoFar arrowsOf all l old new) (none-left h s n at over) p)
+      arrows-end old new p = so-far-end arrowsOf all old new (subst (λ l. AddedSoFar arrowsOf all l old new) (all-read h s n at over) p)
 
       pub exclusions-end : (old new : List ℕ) → AddedSoFar exclusionsOf all (rulesIn h s n at) old new → AddedAll (each exclusionsOf all) old new
-      exclusions-end old new p = so-far-end exclusionsOf all old new (subst (λ l. AddedSoFar exclusionsOf all l old new) (none-left h s n at over) p)
+      exclusions-end old new p = so-far-end exclusionsOf all old new (subst (λ l. AddedSoFar exclusionsOf all l old new) (all-read h s n at over) p)
 
       pub functionals-end : (word : ℕ) → FunctionalSoFar all (rulesIn h s n at) word → FunctionalOf all word
-      functionals-end word p = functional-end all word (subst (λ l. FunctionalSoFar all l word) (none-left h s n at over) p)
+      functionals-end word p = functional-end all word (subst (λ l. FunctionalSoFar all l word) (all-read h s n at over) p)
 
 pub ruleset filling = (blank-table, zeros-table, arrows-start, exclusions-start, functionals-start, arrows-on, exclusions-on, functionals-on, arrows-stop, exclusions-stop, functionals-stop, arrows-end, exclusions-end, functionals-end, needs)

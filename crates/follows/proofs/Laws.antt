@@ -1,5 +1,5 @@
 -- What holds of included and excluded in every lawful site: only declared nodes are related, concepts with concepts and roles with roles,
--- and a functional role includes only itself. Each is by induction on the steps.
+-- inclusions hold turned and of partners too, and a functional role includes only itself. Each is by induction on the steps.
 use mathlib.Core.Path.{_≡_, refl, sym, ap, subst, _∙_}
 use mathlib.Core.Bool.{Bool, true, false}
 use mathlib.Core.List.{List·Memᴰ}
@@ -48,6 +48,14 @@ module _ (s : Site) where
   declared-turned (forward j) e = e
   declared-turned (inverse j) e = e
 
+  pub turned-kept : (x : Node) → declared s x ≡ true → declared s (turnedNode x) ≡ true
+  turned-kept (concept b) e = e
+  turned-kept (role q) e = declared-turned q e
+
+  pub some-kept : (x : Node) → declared s x ≡ true → declared s (someNode x) ≡ true
+  some-kept (concept b) e = e
+  some-kept (role q) e = e
+
   pub declared-one-of : (q : BasicRole) {x : Node} → OneOf q x → declared s x ≡ true → declaredRole s q ≡ true
   declared-one-of q itself e = e
   declared-one-of q has e = e
@@ -62,6 +70,23 @@ module _ (s : Site) where
   -- what the steps keep of included
   pub declared-both-turned : (p q : BasicRole) → Both s (role p) (role q) → Both s (role (turned p)) (role (turned q))
   declared-both-turned p q b = record { left = declared-turned p (b .left); right = declared-turned q (b .right) }
+
+  -- inclusions turned round, and of the first thing alone
+  pub included-turn : {x y : Node} → Included s x y → Included s (turnedNode x) (turnedNode y)
+  included-turn (rule-includes m kind-0) = rule-includes m kind-0
+  included-turn (rule-includes m kind-2) = step-3 (rule-includes m kind-2)
+  included-turn (step-1 {x = x} h) = step-1 (turned-kept x h)
+  included-turn (step-2 i k) = step-2 (included-turn i) (included-turn k)
+  included-turn (step-3 i) = step-3 (step-3 i)
+  included-turn (step-4 i) = step-4 i
+
+  pub included-having : {x y : Node} → Included s x y → Included s (someNode x) (someNode y)
+  included-having (rule-includes m kind-0) = rule-includes m kind-0
+  included-having (rule-includes m kind-2) = step-4 (rule-includes m kind-2)
+  included-having (step-1 {x = x} h) = step-1 (some-kept x h)
+  included-having (step-2 i k) = step-2 (included-having i) (included-having k)
+  included-having (step-3 i) = step-4 (step-3 i)
+  included-having (step-4 i) = step-4 i
 
   pub included-sort : {x y : Node} → Included s x y → isRole x ≡ isRole y
   included-sort (rule-includes m kind-0) = refl

@@ -1,4 +1,4 @@
--- What an accepted answer says of the answers that it is made of.
+-- What an accepted answer says of the answers that it is made of, and what holds of all that an answer gives. A refusal's laws are in `Refusing`.
 use mathlib.Core.Path.{_≡_, refl}
 use mathlib.Core.Bool.{Bool, true, false, cond}
 use native.Mathlib.Omega.{arith}
@@ -12,6 +12,9 @@ never e = let z : _≡_ {A = ℕ} 0 1 = cc in omega arith
 
 pub given-once : {A : Type 0} {x y : A} → gives x ≡ gives y → x ≡ y
 given-once e = cc
+
+pub same-refused : {A : Type 0} {q r : Refusal} → _≡_ {A = Answer A} (refuses q) (refuses r) → q ≡ r
+same-refused e = cc
 
 module _ {A : Type 0} where
   -- what went on was given
@@ -50,3 +53,25 @@ module _ {A : Type 0} where
   pub over-given : {B : Type 0} (f : A → B) (a : Answer A) {y : B} → over f a ≡ gives y → Over f a y
   over-given f (gives v) e = record { value = v; given = refl; told = given-once e }
   over-given f (refuses r) e = absurd (never e)
+
+  -- what holds of all that an answer gives
+  module _ (P : A → Type 0) where
+    abbrev pub Given : Answer A → Type 0
+    Given a = (x : A) → a ≡ gives x → P x
+
+    pub given-gives : (a : A) → P a → Given (gives a)
+    given-gives a p x e = rw (given-once e) at p
+
+    pub given-test : (t : Bool) (a b : Answer A) → Given a → Given b → Given (cond t a b)
+    given-test true a b first other = first
+    given-test false a b first other = other
+
+module _ {A B : Type 0} where
+  pub given-then : (P : B → Type 0) (a : Answer A) (k : A → Answer B) → ((x : A) → a ≡ gives x → Given P (k x)) → Given P (a then k)
+  given-then P (gives v) k rest = rest v refl
+  given-then P (refuses r) k rest = λ x e. absurd (never e)
+
+  -- answers that are the same as far as they go
+  pub then-same : (a : Answer A) (k k′ : A → Answer B) → ((x : A) → a ≡ gives x → k x ≡ k′ x) → (a then k) ≡ (a then k′)
+  then-same (gives x) k k′ same = same x refl
+  then-same (refuses r) k k′ same = refl

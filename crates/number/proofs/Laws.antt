@@ -4,7 +4,7 @@ use Prim.Native.Nat.{ℕ, zero, suc, _+_, _-_, _*_, _/_, _%_, _≤_, _<_}
 use mathlib.Core.Path.{_≡_, refl, sym, ap, _∙_}
 use mathlib.Core.List.{List, [], _∷_, _++_}
 use lib.ListN.{length, getD, take, drop, length-drop}
-use lib.Seq.{drop-append-seam, drop-drop, getD-drop, take-at, drop-at}
+use lib.Seq.{drop-append-seam, drop-drop, getD-drop, take-at, take-nil, take-take, drop-at}
 use lib.Dec.{ltb, leb, eqb}
 use native.Mathlib.Omega.{arith}
 use borrow.Author.Tests.{lt-ltb, le-ltb, le-leb, ne-eqb, ltb-true, ltb-false, leb-true, eqb-false}
@@ -18,8 +18,9 @@ use Rattle.number.specs.declared.read.Num.{Num}
 use Rattle.number.specs.declared.read.Num.the-variants.{Value, Refused}
 use Rattle.number.specs.declared.write.Wrote.{Wrote}
 use Rattle.number.specs.declared.write.Wrote.the-variants.{Next, Refused as Stopped}
+use Rattle.number.proofs.Answers.{never, given-once, same-refused}
 use Rattle.number.proofs.One.{one, undone, Same}
-use Rattle.number.proofs.Writing.{picked, by-form, sized, bytes-1, bytes-2, bytes-3}
+use Rattle.number.proofs.Writing.{picked, by-form, sized, size-1, bytes-1, bytes-2, bytes-3}
 
 -- every element is a byte
 abbrev pub Bytes : List ℕ → Type 0
@@ -43,6 +44,9 @@ module _ (v : ℕ) where
 
   pub at-most-three : length (bytesOf v) ≤ 3
   at-most-three = by-form v (λ l. length l ≤ 3) (λ h. omega arith) (λ h k. omega arith) (λ h. omega arith)
+
+  pub two-bytes : v < 16384 → length (bytesOf v) ≤ 2
+  two-bytes small = by-form v (λ l. length l ≤ 2) (λ h. omega arith) (λ h k. omega arith) (λ h. absurd (omega arith))
 
   module _ (has-form : v ≤ threeBytes) where
     pub written-bytes : Bytes (bytesOf v)
@@ -196,22 +200,12 @@ pub record OneForm (s : List ℕ) (at v next : ℕ) : Type 0 where
   pub rest : drop at s ≡ bytesOf v ++ drop next s
   pub bytes : take (next - at) (drop at s) ≡ bytesOf v
 
--- an answer is not both
-never : {A : Type 0} {r : Refusal} {a : A} → refuses r ≡ gives a → ⊥
-never e = let z : _≡_ {A = ℕ} 0 1 = cc in omega arith
-
--- what was read, of an answer that gives it
-given : Read ℕ → Answer (Read ℕ) → Read ℕ
-given d (gives r) = r
-given d (refuses r) = d
-
 module _ (s : List ℕ) (at most side v next : ℕ) where
   judged-accepts : (w n : ℕ) → Formed (drop at s) w n → judged w (at + n) at most side ≡ gives (record { value = v; next = next }) → Accepts s at most v next
-  unfolding given
   judged-accepts w n form =
       picked (λ a. a ≡ gives (record { value = v; next = next }) → Accepts s at most v next) _ _ (leb w most)
       (λ t e.
-      let read : record { value = w; next = at + n } ≡ record { value = v; next = next } = ap (given (record { value = 0; next = 0 })) e in
+      let read : record { value = w; next = at + n } ≡ record { value = v; next = next } = given-once e in
       let is-v : w ≡ v = ap (λ r. r .value) read in
       record { size = n; form = rw is-v at form; place = sym (ap (λ r. r .next) read); within = rw is-v at (leb-true w most t) })
       (λ f e. absurd (never e))
@@ -247,6 +241,10 @@ module _ (s : List ℕ) (at most side v next : ℕ) where
         let size : next ≡ at + length (bytesOf v) = rw (← (w .size)) (acceptance .place) in
         record { size = size; rest = rest; bytes = rw rest (take-at (bytesOf v) (drop next s) (next - at) (omega arith)) }
 
+    -- a small one has one byte
+    pub one-byte : Bytes s → v < 128 → next ≡ at + 1
+    one-byte bytes low = omega (arith, one-form bytes .size, size-1 v low)
+
 -- a refused number: the side that was given, the number's first byte, and 1, 2 or 3
 pub record RefusedHow (at side : ℕ) (r : Refusal) : Type 0 where
   pub side-given : r .side ≡ side
@@ -254,17 +252,11 @@ pub record RefusedHow (at side : ℕ) (r : Refusal) : Type 0 where
   pub low : 1 ≤ r .number
   pub high : r .number ≤ 3
 
--- the refusal of an answer that refuses
-refused : Refusal → Answer (Read ℕ) → Refusal
-refused d (gives a) = d
-refused d (refuses r) = r
-
 module _ (at most side : ℕ) (r : Refusal) where
   by-number : (n : ℕ) → 1 ≤ n → n ≤ 3 → _≡_ {A = Answer (Read ℕ)} (refuses (refusal n side at)) (refuses r) → RefusedHow at side r
-  unfolding refused
   by-number n low high e =
       let how : RefusedHow at side (refusal n side at) = record { side-given = refl; first-byte = refl; low = low; high = high } in
-      rw (ap (refused r) e) at how
+      rw (same-refused e) at how
 
   form-refused : {s : List ℕ} (f : Form) → Stands s f → judgeAt at most side f ≡ refuses r → RefusedHow at side r
   form-refused f (faulty k low high is) e = by-number k low high (rw is at e)
@@ -293,6 +285,23 @@ module _ (s t : List ℕ) (at most side : ℕ) where
 
   pub from-place-on : drop at s ≡ drop at t → numberAt s at most side ≡ numberAt t at most side
   from-place-on e = from-three-bytes (ap (take 3) e)
+
+window : (at n m : ℕ) (l : List ℕ) → m ≡ at + n → drop at (take m l) ≡ take n (drop at l)
+window zero n m l e = let all : m ≡ n = omega arith in ap (λ (k : ℕ). take k l) all
+window (suc at) n zero l e = absurd (omega arith)
+window (suc at) n (suc m) [] e = sym (take-nil n)
+window (suc at) n (suc m) (a ∷ l) e = window at n m l (omega arith)
+
+-- bytes that agree up to n have the same numbers there
+module _ (s t : List ℕ) (n : ℕ) (agree : take n s ≡ take n t) (at : ℕ) (here : at + 3 ≤ n) where
+  same-window : take 3 (drop at s) ≡ take 3 (drop at t)
+  same-window =
+      sym (window at 3 (at + 3) s refl)
+      ∙ ap (drop at) (sym (take-take (at + 3) n s here) ∙ ap (take (at + 3)) agree ∙ take-take (at + 3) n t here)
+      ∙ window at 3 (at + 3) t refl
+
+  pub same-number : (most side : ℕ) → numberAt s at most side ≡ numberAt t at most side
+  same-number most side = from-three-bytes s t at most side same-window
 
 read-back : Answer (Read ℕ) → Num
 read-back (gives r) = Value (r .value) (r .next)

@@ -2,4 +2,5 @@ pub mod Answers
 pub mod Laws
 pub mod One
 pub mod Reading
+pub mod Refusing
 pub mod Writing

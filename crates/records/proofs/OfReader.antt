@@ -12,17 +12,18 @@ use Rattle.number.specs.Answer.Answer.{gives, refuses}
 use Rattle.number.specs.Number.{numberAt}
 use Rattle.number.specs.declared.refusal.Refusal.{Refusal}
 use Rattle.number.proofs.Laws.{bounds, refused-how}
-use Rattle.number.proofs.Writing.{picked}
-use Rattle.number.proofs.Answers.{never}
+use Rattle.number.proofs.Answers.{never, same-refused}
+use Rattle.number.proofs.Refusing.{Refuses, refuses-gives, refuses-test, refuses-then}
 use Rattle.site.specs.declared.fact.Fact.{Fact}
 use Rattle.site.specs.Items.{codeAt}
 use Rattle.site.specs.Limits.{mostThing}
+use Rattle.site.proofs.There.{code-there}
 use Rattle.rules.specs.RuleFile.{checkRules}
 use Rattle.rules.specs.declared.head.Head.{Head}
 use Rattle.bundle.specs.Bundle.{Last, factAt, checkBundle, factsOf}
 use Rattle.bundle.specs.Told.{factRest}
 use Rattle.bundle.specs.declared.facts.Facts.{Facts}
-use Rattle.bundle.proofs.Runs.{FactThere, fact-read, any-there, code-there, fact-by-rest, Run}
+use Rattle.bundle.proofs.Runs.{FactThere, fact-read, any-there, fact-by-rest, Run}
 use Rattle.bundle.proofs.Runs.Run.{stop, more}
 use Rattle.bundle.proofs.Accepted.{bundle-there}
 use Rattle.records.specs.Reading.{Found, Stepped, goesOn, readerStart, readerStep, yieldsFrom}
@@ -83,19 +84,8 @@ pub record StepRefused (at : ℕ) (r : Refusal) : Type 0 where
   pub high : r .number ≤ 3
   pub place : at ≤ r .place
 
--- an answer whose refusal, if it is one, is such
-abbrev Refuses : {A : Type 0} → ℕ → Answer A → Type 0
-Refuses at a = (r : Refusal) → a ≡ refuses r → StepRefused at r
-
-refuses-then : {A B : Type 0} (at : ℕ) (a : Answer A) (k : A → Answer B) → Refuses at a → ((x : A) → a ≡ gives x → Refuses at (k x)) → Refuses at (a then k)
-refuses-then at (gives x) k first rest = rest x refl
-refuses-then {A} {B} at (refuses q) k first rest = λ r e. first r (same r e)
-  where
-    same : (r : Refusal) → _≡_ {A = Answer B} (refuses q) (refuses r) → _≡_ {A = Answer A} (refuses q) (refuses r)
-    same r e = ap refuses (let z : q ≡ r = cc in z)
-
 module _ (s : List ℕ) where
-  number-refused : (start at : ℕ) → start ≤ at → Refuses start (numberAt s at mostThing 1)
+  number-refused : (start at : ℕ) → start ≤ at → Refuses (StepRefused start) (numberAt s at mostThing 1)
   number-refused start at later r e =
       let how = refused-how at mostThing 1 r s e in
       record { side = how .side-given; low = how .low; high = how .high; place = omega (arith, how .first-byte) }
@@ -103,27 +93,24 @@ module _ (s : List ℕ) where
   passes : (at v next : ℕ) → numberAt s at mostThing 1 ≡ gives (record { value = v; next = next }) → at ≤ next
   passes at v next e = omega (arith, bounds s at mostThing 1 v next e .past)
 
-  given-none : {A : Type 0} (start : ℕ) (x : A) → Refuses start (gives x)
-  given-none start x r e = absurd (never (sym e))
-
-  rest-refused : (start predicate at : ℕ) → start ≤ at → Refuses start (factRest s predicate at)
+  rest-refused : (start predicate at : ℕ) → start ≤ at → Refuses (StepRefused start) (factRest s predicate at)
   unfolding factRest
   rest-refused start predicate at later =
-      refuses-then start (numberAt s at mostThing 1) _ (number-refused start at later)
+      refuses-then _ (numberAt s at mostThing 1) _ (number-refused start at later)
       (λ a e.
-      picked (Refuses start) _ _ (ltb predicate 64) (λ t. given-none start _)
-      (λ t. refuses-then start (numberAt s (a .next) mostThing 1) _ (number-refused start (a .next) (omega (arith, passes at (a .value) (a .next) e))) (λ b e′. given-none start _)))
+      refuses-test _ (ltb predicate 64) _ _ (refuses-gives _ _)
+      (refuses-then _ (numberAt s (a .next) mostThing 1) _ (number-refused start (a .next) (omega (arith, passes at (a .value) (a .next) e))) (λ b e′. refuses-gives _ _)))
 
-  fact-refused : (at : ℕ) → Refuses at (factAt (λ _. true) s at)
+  fact-refused : (at : ℕ) → Refuses (StepRefused at) (factAt (λ _. true) s at)
   unfolding codeAt
   fact-refused at r e =
-      refuses-then at (codeAt s at (λ _. true) 1) (λ p. factRest s (p .value) (p .next))
-      (refuses-then at (numberAt s at mostThing 1) gives (number-refused at at (omega arith)) (λ n e′. given-none at n))
+      refuses-then _ (codeAt s at (λ _. true) 1) (λ p. factRest s (p .value) (p .next))
+      (refuses-then _ (numberAt s at mostThing 1) gives (number-refused at at (omega arith)) (λ n e′. refuses-gives _ n))
       (λ p e′. rest-refused at (p .value) (p .next) (passes at (p .value) (p .next) (code-there s at (λ _. true) 1 p e′ .number))) r (sym (fact-by-rest (λ _. true) s at) ∙ e)
 
   by-fact : (at : ℕ) (a : Answer (Read Fact)) (r : Refusal) → goesOn at a .yields ≡ refuses r → a ≡ refuses r
   by-fact at (gives f) r e = absurd (never (sym e))
-  by-fact at (refuses q) r e = ap refuses (let z : q ≡ r = cc in z)
+  by-fact at (refuses q) r e = ap refuses (same-refused e)
 
   by-end : (at : ℕ) (t : Bool) (r : Refusal) → cond {A = Stepped} t (goesOn at (factAt (λ _. true) s at)) (record { yields = gives done; next = at }) .yields ≡ refuses r → factAt (λ _. true) s at ≡ refuses r
   by-end at true r e = by-fact at (factAt (λ _. true) s at) r e

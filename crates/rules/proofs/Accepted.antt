@@ -1,38 +1,28 @@
 -- What an accepted rule is: its codes are declared. The reading is taken apart from its last number to its first.
 use Prim.Native.Nat.{ℕ, zero, suc, _≤_, _<_}
 use mathlib.Core.Path.{_≡_, refl, sym, subst, _∙_}
-use mathlib.Core.Bool.{Bool, true, false, cond, _&&_}
+use mathlib.Core.Bool.{Bool, true, false, cond}
 use mathlib.Core.List.{List}
 use lib.Dec.{leb, eqb}
 use native.Mathlib.Omega.{arith}
 use borrow.Author.Tests.{leb-true, eqb-true, eqb-false}
-use Rattle.number.specs.Answer.{Answer, Read, refusal, _then_}
-use Rattle.number.specs.Answer.Answer.{gives, refuses}
-use Rattle.number.specs.Number.{numberAt}
-use Rattle.number.proofs.Answers.{went, passed, given-once}
+use Rattle.number.specs.Answer.{Answer, Read, _then_}
+use Rattle.number.specs.Answer.Answer.{gives}
+use Rattle.number.proofs.Answers.{went, given-once}
 use Rattle.site.specs.Codes.{conceptDeclared, roleDeclared, conceptOf, roleOf, ruleOf}
 use Rattle.site.specs.Kinds.{Rule, Site, declared, declaredRole}
 use Rattle.site.specs.Kinds.Node.{concept}
 use Rattle.site.specs.Items.{codeAt, countAt}
-use Rattle.site.specs.Limits.{mostNumber, mostConcepts, mostRoles, mostRules, lastKind}
+use Rattle.site.specs.Limits.{mostConcepts, mostRoles, mostRules, lastKind}
+use Rattle.site.proofs.Lists.{and-both}
+use Rattle.site.proofs.There.{count-there, code-there}
 use Rattle.site.proofs.OfKinds.{role-declared, concept-declared}
 use Rattle.rules.specs.Lawful.{ruleDeclared}
 use Rattle.rules.specs.RuleFile.{headOf, codeDeclared, ruleAt}
 use Rattle.rules.specs.declared.head.Head.{Head}
 
--- a code that was read is known
-pub code-is-known : (s : List ℕ) (at : ℕ) (known : ℕ → Bool) (side : ℕ) (n : Read ℕ) → codeAt s at known side ≡ gives n → known (n .value) ≡ true
-unfolding codeAt
-code-is-known s at known side n e =
-    let w = went (numberAt s at mostNumber side) (λ n. cond (known (n .value)) (gives n) (refuses (refusal 5 side at))) e in
-    let p = passed (known (w .value .value)) (gives (w .value)) (refusal 5 side at) (w .rest) in
-    subst (λ (m : Read ℕ). known (m .value) ≡ true) (given-once (p .answer)) (p .test)
-
 below-4 : (n : ℕ) → n ≤ 4 → (n ≡ 4 → ⊥) → n < 4
 below-4 n h k = omega arith
-
-both : {a b : Bool} → a ≡ true → b ≡ true → (a && b) ≡ true
-both {a} {b} e f = rw (e, f)
 
 module _ (h : Head) (rules : List Rule) where
   abbrev site : Site
@@ -47,10 +37,10 @@ module _ (h : Head) (rules : List Rule) where
   -- the rule of a kind below 4, and of kind 4
   two-codes : (kind x y : ℕ) → kind < 4 → codeDeclared h kind x ≡ true → codeDeclared h kind y ≡ true → ruleDeclared site (ruleOf kind x y) ≡ true
   unfolding codeDeclared
-  two-codes zero x y k e f = both (of-concept x e) (of-concept y f)
-  two-codes (suc zero) x y k e f = both (of-concept x e) (of-concept y f)
-  two-codes (suc (suc zero)) x y k e f = both (of-role x e) (of-role y f)
-  two-codes (suc (suc (suc zero))) x y k e f = both (of-role x e) (of-role y f)
+  two-codes zero x y k e f = and-both _ _ (of-concept x e) (of-concept y f)
+  two-codes (suc zero) x y k e f = and-both _ _ (of-concept x e) (of-concept y f)
+  two-codes (suc (suc zero)) x y k e f = and-both _ _ (of-role x e) (of-role y f)
+  two-codes (suc (suc (suc zero))) x y k e f = and-both _ _ (of-role x e) (of-role y f)
   two-codes (suc (suc (suc (suc kind)))) x y k e f = absurd (omega arith)
 
   one-code : (x : ℕ) → codeDeclared h 4 x ≡ true → ruleDeclared site (ruleOf 4 x 0) ≡ true
@@ -74,7 +64,7 @@ module _ (h : Head) (rules : List Rule) where
     after-first kind x false is-4 k known e =
         let y = went (codeAt s (x .next) (codeDeclared h kind) 0) _ e in
         let less : kind < 4 = below-4 kind k (eqb-false kind 4 is-4) in
-        let there = two-codes kind (x .value) (y .value .value) less known (code-is-known s (x .next) (codeDeclared h kind) 0 (y .value) (y .first)) in
+        let there = two-codes kind (x .value) (y .value .value) less known (code-there s (x .next) (codeDeclared h kind) 0 (y .value) (y .first) .holds) in
         subst (λ (m : Read Rule). ruleDeclared site (m .value) ≡ true) (given-once (y .rest)) there
 
     -- a rule that was read has declared codes
@@ -84,17 +74,9 @@ module _ (h : Head) (rules : List Rule) where
         let kind = went (codeAt s at (λ kind. leb kind lastKind) 0) _ e in
         let x = went (codeAt s (kind .value .next) (codeDeclared h (kind .value .value)) 0) _ (kind .rest) in
         after-first (kind .value .value) (x .value) (eqb (kind .value .value) lastKind) refl
-        (leb-true (kind .value .value) lastKind (code-is-known s at (λ k. leb k lastKind) 0 (kind .value) (kind .first)))
-        (code-is-known s (kind .value .next) (codeDeclared h (kind .value .value)) 0 (x .value) (x .first))
+        (leb-true (kind .value .value) lastKind (code-there s at (λ k. leb k lastKind) 0 (kind .value) (kind .first) .holds))
+        (code-there s (kind .value .next) (codeDeclared h (kind .value .value)) 0 (x .value) (x .first) .holds)
         (x .rest)
-
--- a count that was read is within its limit
-pub count-is-within : (s : List ℕ) (at limit side : ℕ) (n : Read ℕ) → countAt s at limit side ≡ gives n → n .value ≤ limit
-unfolding countAt
-count-is-within s at limit side n e =
-    let w = went (numberAt s at mostNumber side) (λ n. cond (leb (n .value) limit) (gives n) (refuses (refusal 4 side at))) e in
-    let p = passed (leb (w .value .value) limit) (gives (w .value)) (refusal 4 side at) (w .rest) in
-    subst (λ (m : Read ℕ). m .value ≤ limit) (given-once (p .answer)) (leb-true (w .value .value) limit (p .test))
 
 -- the head's limits
 module _ (s : List ℕ) (h : Head) (e : headOf s ≡ gives h) where
@@ -111,9 +93,9 @@ module _ (s : List ℕ) (h : Head) (e : headOf s ≡ gives h) where
       let n = went (countAt s (r .value .next) mostRules 0) _ (r .rest) in
       let same = given-once (n .rest) in
       record {
-        concepts = subst (λ (k : Head). k .concepts ≤ mostConcepts) same (count-is-within s 0 mostConcepts 0 (c .value) (c .first));
-        roles = subst (λ (k : Head). k .roles ≤ mostRoles) same (count-is-within s (c .value .next) mostRoles 0 (r .value) (r .first));
-        rules = subst (λ (k : Head). k .rules ≤ mostRules) same (count-is-within s (r .value .next) mostRules 0 (n .value) (n .first));
+        concepts = subst (λ (k : Head). k .concepts ≤ mostConcepts) same (count-there s 0 mostConcepts 0 (c .value) (c .first) .within);
+        roles = subst (λ (k : Head). k .roles ≤ mostRoles) same (count-there s (c .value .next) mostRoles 0 (r .value) (r .first) .within);
+        rules = subst (λ (k : Head). k .rules ≤ mostRules) same (count-there s (r .value .next) mostRules 0 (n .value) (n .first) .within);
       }
 
   pub head-roles : h .roles ≤ mostRoles

@@ -1,11 +1,10 @@
 -- An accepted rule file's rules are lawful: the walk that read them says so of each, and the last walk of the functional ones.
-use Prim.Native.Nat.{ℕ, zero, suc}
+use Prim.Native.Nat.{ℕ, zero, suc, _≤_}
 use mathlib.Core.Path.{_≡_, refl, sym, subst, _∙_}
 use mathlib.Core.Bool.{true, false, cond, true≢false}
 use mathlib.Core.List.{List, _∷_, List·Memᴰ, List·Memᴰ·not-nil, List·Memᴰ·cases-cons}
 use mathlib.Core.Logic.{⊎-elim}
 use lib.ListN.{length}
-use lib.Dec.{ltb}
 use borrow.Author.Tests.{eq-eqb}
 use Rattle.number.specs.Answer.{Answer, Read, refusal, _then_}
 use Rattle.number.specs.Answer.Answer.{gives, refuses}
@@ -13,6 +12,7 @@ use Rattle.number.proofs.Answers.{went, not-stopped, given-once}
 use Rattle.site.specs.Kinds.{Rule, Site, roleIn}
 use Rattle.site.specs.Items.{endAt, onward}
 use Rattle.site.proofs.Lists.{any-of}
+use Rattle.site.proofs.There.{end-there}
 use Rattle.rules.specs.Lawful.{Lawful, ruleDeclared}
 use Rattle.rules.specs.RuleFile.{headOf, ruleAt, rulesFrom, rulesIn, onRight, broken, unbroken, afterRules, checkRules, siteOf}
 use Rattle.rules.specs.declared.head.Head.{Head}
@@ -54,12 +54,8 @@ pub record AcceptedRules (s : List ℕ) (h : Head) : Type 0 where
   pub last : ℕ
   pub head : headOf s ≡ gives h
   pub rules : rulesFrom h s (h .rules) (h .start) ≡ gives end
-  pub ended : endAt s end 0 ≡ gives end
+  pub at-end : length s ≤ end
   pub whole : unbroken h s (rulesIn h s (h .rules) (h .start)) (h .rules) (h .start) ≡ gives last
-
-end-is : (s : List ℕ) (at side x : ℕ) → endAt s at side ≡ gives x → endAt s at side ≡ gives at
-unfolding endAt
-end-is s at side x e = let p = not-stopped (ltb at (length s)) (gives at) (refusal 7 side at) e in rw (p .test)
 
 pub accepted-rules : (s : List ℕ) (h : Head) → checkRules s ≡ gives h → AcceptedRules s h
 unfolding checkRules afterRules
@@ -75,7 +71,7 @@ accepted-rules s h e =
       last = fourth .value;
       head = first .first;
       rules = second .first;
-      ended = end-is s (second .value) 0 (third .value) (third .first);
+      at-end = end-there s (second .value) 0 (third .value) (third .first);
       whole = fourth .first;
     })
 

@@ -1,6 +1,6 @@
 -- What one turn of each walk over the rules says of the whole, and what stands after the last rule.
 use Prim.Native.Nat.{ℕ, suc, _+_, _-_, _/_, _≤_, _<_, min}
-use mathlib.Core.Path.{_≡_, refl, sym, ap, subst, _∙_}
+use mathlib.Core.Path.{_≡_, refl, sym, ap, _∙_}
 use mathlib.Core.Bool.{Bool, true, false, cond, _||_, or-false, or-true, or-assoc}
 use mathlib.Core.List.{List, [], _∷_}
 use lib.ListN.{length, getD, set, length-set, replicate, getD-replicate}
@@ -86,7 +86,7 @@ module _ (h : Head) (s : List ℕ) (n at : ℕ) (more : 0 < n) where
         pub unbroken-refused : (rules : List SaidRule) (whole : Answer ℕ) → whole ≡ unbroken h s rules n at → endTold (Refused u) ≡ whole
         unbroken-refused rules whole w = rw (w, unbroken-turn rules, refused, the-refusal)
 
-      none-left : rulesIn h s n at ≡ []
+      pub none-left : rulesIn h s n at ≡ []
       none-left = rw (in-turn, refused)
 
     module _ (rule : Rule) (next : ℕ) (read : e ≡ RuleIs rule next) where
@@ -96,7 +96,7 @@ module _ (h : Head) (s : List ℕ) (n at : ℕ) (more : 0 < n) where
       pub end-again : (whole : Answer ℕ) → whole ≡ rulesFrom h s n at → whole ≡ rulesFrom h s (n - 1) next
       end-again whole w = w ∙ rw (from-turn, gave)
 
-      one-more : rulesIn h s n at ≡ ruleTold rule ∷ rulesIn h s (n - 1) next
+      pub one-more : rulesIn h s n at ≡ ruleTold rule ∷ rulesIn h s (n - 1) next
       one-more = rw (in-turn, gave)
 
       module _ (rules : List SaidRule) (whole : Answer ℕ) (w : whole ≡ unbroken h s rules n at) where
@@ -110,6 +110,10 @@ module _ (h : Head) (s : List ℕ) (n at : ℕ) (more : 0 < n) where
 module _ (h : Head) (s : List ℕ) (n at : ℕ) (over : n ≤ 0) where
   none : n ≡ 0
   none = omega arith
+
+  pub all-read : rulesIn h s n at ≡ []
+  unfolding rulesIn
+  all-read = ap (λ (k : ℕ). rulesIn h s k at) none
 
   pub end-done : (whole : Answer ℕ) → whole ≡ rulesFrom h s n at → gives at ≡ whole
   unfolding rulesFrom
@@ -166,8 +170,7 @@ module _ (whole : List SaidRule) (right : List Bool) where
 
   module _ (h : Head) (s : List ℕ) (n at : ℕ) (so : RightsSoFar whole (rulesIn h s n at) right) where
     pub rights-done : n ≤ 0 → Rights whole right
-    unfolding rulesIn
-    rights-done over = rights-of (subst (λ (k : ℕ). RightsSoFar whole (rulesIn h s k at) right) (none h s n at over) so)
+    rights-done over = rights-of (rw (all-read h s n at over) at so)
 
     module _ (more : 0 < n) (e : RuleRead) (is : ruleReadTold e ≡ ruleAt h s at) where
       pub rights-refused : (r : Refusal) → e ≡ RuleRefused r → Rights whole right

@@ -7,4 +7,3 @@ pub mod Longest
 pub mod OneAnswer
 pub mod Reading
 pub mod Refusals
-pub mod There

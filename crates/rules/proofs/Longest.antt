@@ -1,28 +1,25 @@
 -- "no valid file is over 28,674 bytes": a rule file none over 1,540, since its first two counts have one byte, its third two, and each of 512 rules
 -- a kind and two codes of one byte. The reading of a longer one looks at no byte past the two after them, where a last code of three bytes would end.
 use Prim.Native.Nat.{ℕ, zero, suc, _+_, _-_, _*_, _/_, _≤_, _<_}
-use mathlib.Core.Path.{_≡_, refl, sym, ap, _∙_}
+use mathlib.Core.Path.{_≡_, refl}
 use mathlib.Core.Bool.{Bool, true, false, cond}
-use mathlib.Core.List.{List, [], _∷_}
-use lib.ListN.{length, take, drop}
-use lib.Seq.{take-take, take-nil}
+use mathlib.Core.List.{List}
+use lib.ListN.{length, take}
 use lib.Dec.{ltb, leb, eqb}
 use native.Mathlib.Omega.{arith}
-use borrow.Author.Tests.{lt-ltb, ltb-true, ltb-false, leb-true}
-use Rattle.number.specs.Answer.{Answer, Read, refusal, _then_}
-use Rattle.number.specs.Answer.Answer.{gives, refuses}
-use Rattle.number.specs.Number.{numberAt, bytesOf}
-use Rattle.number.proofs.Answers.{not-stopped}
-use Rattle.number.proofs.Laws.{Bytes, one-form, from-three-bytes}
-use Rattle.number.proofs.Writing.{by-form, size-1}
+use borrow.Author.Tests.{lt-ltb, ltb-true, leb-true}
+use Rattle.number.specs.Answer.{Read, _then_}
+use Rattle.number.specs.Answer.Answer.{gives}
+use Rattle.number.proofs.Answers.{Given, given-gives, given-test, given-then, then-same}
+use Rattle.number.proofs.Laws.{Bytes, two-bytes, one-form, one-byte}
 use Rattle.site.specs.Codes.{conceptDeclared, roleDeclared}
 use Rattle.site.specs.Items.{countAt, codeAt, endAt}
 use Rattle.site.specs.Limits.{mostNumber, mostConcepts, mostRoles, mostRules, lastKind}
+use Rattle.site.proofs.There.{count-there, code-there, same-count, same-code}
 use Rattle.rules.specs.RuleFile.{headOf, codeDeclared, ruleAt, rulesFrom, afterRules, checkRules}
 use Rattle.rules.specs.declared.head.Head.{Head}
 use Rattle.rules.proofs.Accepted.{head-within}
 use Rattle.rules.proofs.AcceptedFile.{accepted-rules}
-use Rattle.rules.proofs.There.{count-there, code-there, Given, given-gives, given-test, given-then}
 
 -- 4 bytes of the counts, and 3 for each of 512 rules
 abbrev pub longest : ℕ
@@ -48,23 +45,17 @@ code-low h kind x few = by-test (leb kind 1)
     by-test true e = concept-low (h .concepts) (h .roles) x few e
     by-test false e = omega (arith, role-low (h .roles) x few e)
 
-two-bytes : (v : ℕ) → v < 16384 → length (bytesOf v) ≤ 2
-two-bytes v h = by-form v (λ l. length l ≤ 2) (λ k. omega arith) (λ k l. omega arith) (λ k. absurd (omega arith))
-
 -- how far a head, a rule and the rules reach
 module _ (s : List ℕ) (bytes : Bytes s) where
-  one-byte : (at : ℕ) (n : Read ℕ) → numberAt s at mostNumber 0 ≡ gives n → n .value < 128 → n .next ≡ at + 1
-  one-byte at n e low = omega (arith, one-form s at mostNumber 0 (n .value) (n .next) e bytes .size, size-1 (n .value) low)
-
   after-count : (at limit : ℕ) (n : Read ℕ) → limit < 128 → countAt s at limit 0 ≡ gives n → n .next ≡ at + 1
   after-count at limit n small e =
       let c = count-there s at limit 0 n e in
-      one-byte at n (c .number) (omega (arith, c .within))
+      one-byte s at mostNumber 0 (n .value) (n .next) (c .number) bytes (omega (arith, c .within))
 
   after-kind : (at : ℕ) (n : Read ℕ) → codeAt s at (λ kind. leb kind lastKind) 0 ≡ gives n → n .next ≡ at + 1
   after-kind at n e =
       let c = code-there s at (λ kind. leb kind lastKind) 0 n e in
-      one-byte at n (c .number) (omega (arith, leb-true (n .value) lastKind (c .holds)))
+      one-byte s at mostNumber 0 (n .value) (n .next) (c .number) bytes (omega (arith, leb-true (n .value) lastKind (c .holds)))
 
   head-near : Given (λ h. h .start ≤ 4) (headOf s)
   unfolding headOf
@@ -85,7 +76,7 @@ module _ (s : List ℕ) (bytes : Bytes s) where
     after-code : (kind at : ℕ) (n : Read ℕ) → codeAt s at (codeDeclared h kind) 0 ≡ gives n → n .next ≡ at + 1
     after-code kind at n e =
         let c = code-there s at (codeDeclared h kind) 0 n e in
-        one-byte at n (c .number) (code-low h kind (n .value) few (c .holds))
+        one-byte s at mostNumber 0 (n .value) (n .next) (c .number) bytes (code-low h kind (n .value) few (c .holds))
 
     rule-near : (at : ℕ) → Given (λ r. r .next ≤ at + 3) (ruleAt h s at)
     unfolding ruleAt
@@ -113,80 +104,47 @@ module _ (s : List ℕ) (bytes : Bytes s) where
       omega (arith, head-near h e, within .rules, rules-near h (within .roles) (h .rules) (h .start) end f)
 
 -- an accepted rule file has at most so many bytes
-at-end : (s : List ℕ) (end x : ℕ) → endAt s end 0 ≡ gives x → length s ≤ end
-unfolding endAt
-at-end s end x e = ltb-false end (length s) (not-stopped (ltb end (length s)) (gives end) (refusal 7 0 end) e .test)
-
 pub accepted-short : (s : List ℕ) (h : Head) → Bytes s → checkRules s ≡ gives h → length s ≤ longest
 accepted-short s h bytes e =
     let a = accepted-rules s h e in
-    omega (arith, at-end s (a .end) (a .end) (a .ended), walk-near s bytes h (a .end) (a .head) (a .rules))
-
--- answers that are the same as far as they go
-then-same : {A B : Type 0} (a : Answer A) (k k′ : A → Answer B) → ((x : A) → a ≡ gives x → k x ≡ k′ x) → (a then k) ≡ (a then k′)
-then-same (gives x) k k′ same = same x refl
-then-same (refuses r) k k′ same = refl
-
-window : (at n m : ℕ) (l : List ℕ) → m ≡ at + n → drop at (take m l) ≡ take n (drop at l)
-window zero n m l e = let all : m ≡ n = omega arith in ap (λ (k : ℕ). take k l) all
-window (suc at) n zero l e = absurd (omega arith)
-window (suc at) n (suc m) [] e = sym (take-nil n)
-window (suc at) n (suc m) (a ∷ l) e = window at n m l (omega arith)
+    omega (arith, a .at-end, walk-near s bytes h (a .end) (a .head) (a .rules))
 
 -- files that agree on their first n bytes
-module _ (s t : List ℕ) (n : ℕ) (agree : take n s ≡ take n t) where
-  same-window : (at : ℕ) → at + 3 ≤ n → take 3 (drop at s) ≡ take 3 (drop at t)
-  same-window at h =
-      sym (window at 3 (at + 3) s refl)
-      ∙ ap (drop at) (sym (take-take (at + 3) n s h) ∙ ap (take (at + 3)) agree ∙ take-take (at + 3) n t h)
-      ∙ window at 3 (at + 3) t refl
+module _ (s t : List ℕ) (n : ℕ) (agree : take n s ≡ take n t) (bytes : Bytes s) where
+  same-head : 5 ≤ n → headOf s ≡ headOf t
+  unfolding headOf
+  same-head h =
+      rw (← (same-count s t n agree 0 (omega arith) mostConcepts 0))
+      (then-same (countAt s 0 mostConcepts 0) _ _
+      (λ c e.
+      let first = after-count s bytes 0 mostConcepts c (omega arith) e in
+      rw (← (same-count s t n agree (c .next) (omega arith) mostRoles 0))
+      (then-same (countAt s (c .next) mostRoles 0) _ _
+      (λ q f.
+      let second = after-count s bytes (c .next) mostRoles q (omega arith) f in
+      rw (same-count s t n agree (q .next) (omega arith) mostRules 0)))))
 
-  same-number : (at : ℕ) → at + 3 ≤ n → numberAt s at mostNumber 0 ≡ numberAt t at mostNumber 0
-  same-number at h = from-three-bytes s t at mostNumber 0 (same-window at h)
+  module _ (h : Head) (few : h .roles ≤ mostRoles) where
+    same-rule : (at : ℕ) → at + 5 ≤ n → ruleAt h s at ≡ ruleAt h t at
+    unfolding ruleAt
+    same-rule at k =
+        rw (← (same-code s t n agree at (omega arith) (λ kind. leb kind lastKind) 0))
+        (then-same (codeAt s at (λ kind. leb kind lastKind) 0) _ _
+        (λ kind e.
+        let first = after-kind s bytes at kind e in
+        rw (← (same-code s t n agree (kind .next) (omega arith) (codeDeclared h (kind .value)) 0))
+        (then-same (codeAt s (kind .next) (codeDeclared h (kind .value)) 0) _ _
+        (λ x f.
+        let second = after-code s bytes h few (kind .value) (kind .next) x f in
+        rw (same-code s t n agree (x .next) (omega arith) (codeDeclared h (kind .value)) 0)))))
 
-  same-count : (at limit : ℕ) → at + 3 ≤ n → countAt s at limit 0 ≡ countAt t at limit 0
-  unfolding countAt
-  same-count at limit h = rw (same-number at h)
-
-  same-code : (at : ℕ) (known : ℕ → Bool) → at + 3 ≤ n → codeAt s at known 0 ≡ codeAt t at known 0
-  unfolding codeAt
-  same-code at known h = rw (same-number at h)
-
-  module _ (bytes : Bytes s) where
-    same-head : 5 ≤ n → headOf s ≡ headOf t
-    unfolding headOf
-    same-head h =
-        rw (← (same-count 0 mostConcepts (omega arith)))
-        (then-same (countAt s 0 mostConcepts 0) _ _
-        (λ c e.
-        let first = after-count s bytes 0 mostConcepts c (omega arith) e in
-        rw (← (same-count (c .next) mostRoles (omega arith)))
-        (then-same (countAt s (c .next) mostRoles 0) _ _
-        (λ q f.
-        let second = after-count s bytes (c .next) mostRoles q (omega arith) f in
-        rw (same-count (q .next) mostRules (omega arith))))))
-
-    module _ (h : Head) (few : h .roles ≤ mostRoles) where
-      same-rule : (at : ℕ) → at + 5 ≤ n → ruleAt h s at ≡ ruleAt h t at
-      unfolding ruleAt
-      same-rule at k =
-          rw (← (same-code at (λ kind. leb kind lastKind) (omega arith)))
-          (then-same (codeAt s at (λ kind. leb kind lastKind) 0) _ _
-          (λ kind e.
-          let first = after-kind s bytes at kind e in
-          rw (← (same-code (kind .next) (codeDeclared h (kind .value)) (omega arith)))
-          (then-same (codeAt s (kind .next) (codeDeclared h (kind .value)) 0) _ _
-          (λ x f.
-          let second = after-code s bytes h few (kind .value) (kind .next) x f in
-          rw (same-code (x .next) (codeDeclared h (kind .value)) (omega arith))))))
-
-      same-rules : (m at : ℕ) → at + 3 * m + 2 ≤ n → rulesFrom h s m at ≡ rulesFrom h t m at
-      unfolding rulesFrom
-      same-rules zero at k = refl
-      same-rules (suc m) at k =
-          rw (← (same-rule at (omega arith)))
-          (then-same (ruleAt h s at) _ _
-          (λ r e. same-rules m (r .next) (omega (arith, rule-near s bytes h few at r e))))
+    same-rules : (m at : ℕ) → at + 3 * m + 2 ≤ n → rulesFrom h s m at ≡ rulesFrom h t m at
+    unfolding rulesFrom
+    same-rules zero at k = refl
+    same-rules (suc m) at k =
+        rw (← (same-rule at (omega arith)))
+        (then-same (ruleAt h s at) _ _
+        (λ r e. same-rules m (r .next) (omega (arith, rule-near s bytes h few at r e))))
 
 -- a longer one's answer is that of its first 1,542 bytes
 module _ (s t : List ℕ) (long-s : longest < length s) (long-t : longest < length t) where

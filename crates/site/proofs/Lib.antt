@@ -4,3 +4,5 @@ pub mod OfCodes
 pub mod OfItems
 pub mod OfKinds
 pub mod Same
+pub mod There
+pub mod InFile

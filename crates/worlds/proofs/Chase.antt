@@ -20,7 +20,6 @@ use Rattle.follows.specs.Steps.Included.{step-1, step-2, step-3, step-4}
 use Rattle.follows.specs.Steps.Excluded.{step-5, step-6, step-8}
 use Rattle.follows.proofs.Laws.{turnedNode, someNode, included-declared, functional-alone}
 use Rattle.worlds.specs.Worlds.{World, Joins, Is, Obeys}
-use Rattle.worlds.proofs.OfNodes.{role-is}
 
 -- a named thing, or the partner by p that an element demands
 pub data Element : Type 0 where
@@ -46,6 +45,9 @@ Plain (disjoint b c) = Unit {0}
 Plain (roleIncluded p q) = Unit {0}
 Plain (roleDisjoint p q) = Unit {0}
 Plain (functional q) = ⊥
+
+role-is : {p q : BasicRole} → role p ≡ role q → p ≡ q
+role-is e = cc
 
 module _ (s : Site) (Tells : Node → ℕ → ℕ → Type 0) (block : Element → BasicRole → Bool) where
   -- a basic concept holds of an element; of a child, if it is demanded and not blocked

@@ -1,5 +1,4 @@
 pub mod OfLists
-pub mod OfNodes
 pub mod Sound
 pub mod Chase
 pub mod Repairs

@@ -17,8 +17,7 @@ use Rattle.rules.specs.Lawful.{Lawful}
 use Rattle.follows.specs.Steps.{Included, Excluded}
 use Rattle.follows.specs.Steps.Included.{step-1, step-2}
 use Rattle.follows.specs.Steps.Excluded.{step-5, step-6}
-use Rattle.worlds.proofs.OfNodes.{included-turn, included-having}
-use Rattle.follows.proofs.Laws.{turnedNode, someNode, included-declared, functional-alone}
+use Rattle.follows.proofs.Laws.{turnedNode, someNode, included-turn, included-having, included-declared, functional-alone}
 use Rattle.clean.proofs.OfTypes.{TypeOf, Against, against-turned}
 use Rattle.clean.proofs.OfTypes.TypeOf.{is-a, has, had, joins, joined}
 use Rattle.clean.proofs.OfTypes.Against.{jars, splits}

@@ -1,16 +1,19 @@
--- What an accepted count and an accepted code are: a number that stands there, within its limit or known.
-use Prim.Native.Nat.{ℕ, _≤_}
-use mathlib.Core.Path.{_≡_, refl, sym, ap, _∙_}
-use mathlib.Core.Bool.{Bool, true, false, cond}
+-- What an accepted count, code and end are, in any file: a number that stands there, within its limit or known, and no byte after the last item.
+-- Files that agree up to a place have the same counts and codes before it.
+use Prim.Native.Nat.{ℕ, _+_, _≤_}
+use mathlib.Core.Path.{_≡_, sym, ap, _∙_}
+use mathlib.Core.Bool.{Bool, true, cond}
 use mathlib.Core.List.{List}
-use lib.Dec.{leb}
-use borrow.Author.Tests.{leb-true}
-use Rattle.number.specs.Answer.{Answer, Read, refusal, _then_}
+use lib.ListN.{length, take}
+use lib.Dec.{ltb, leb}
+use borrow.Author.Tests.{ltb-false, leb-true}
+use Rattle.number.specs.Answer.{Read, refusal}
 use Rattle.number.specs.Answer.Answer.{gives, refuses}
 use Rattle.number.specs.Number.{numberAt}
-use Rattle.number.proofs.Answers.{never, given-once, went, passed}
-use Rattle.site.specs.Items.{countAt, codeAt}
+use Rattle.number.proofs.Answers.{given-once, went, passed, not-stopped}
+use Rattle.number.proofs.Laws.{same-number}
+use Rattle.site.specs.Items.{countAt, codeAt, endAt}
 use Rattle.site.specs.Limits.{mostNumber}
 
 pub record CountThere (s : List ℕ) (at limit side : ℕ) (n : Read ℕ) : Type 0 where
   pub number : numberAt s at mostNumber side ≡ gives n
@@ -34,18 +37,16 @@ code-there s at known side n e =
     let t = passed (known (w .value .value)) (gives (w .value)) (refusal 5 side at) (w .rest) in
     record { number = w .first ∙ t .answer; holds = ap (λ (m : Read ℕ). known (m .value)) (sym (given-once (t .answer))) ∙ t .test }
 
--- what holds of all that an answer gives, put together as the reading is
-module _ {A : Type 0} (P : A → Type 0) where
-  abbrev pub Given : Answer A → Type 0
-  Given a = (x : A) → a ≡ gives x → P x
+-- nothing stands after the last item
+pub end-there : (s : List ℕ) (at side end : ℕ) → endAt s at side ≡ gives end → length s ≤ at
+unfolding endAt
+end-there s at side end e = ltb-false at (length s) (not-stopped (ltb at (length s)) (gives at) (refusal 7 side at) e .test)
 
-  pub given-gives : (a : A) → P a → Given (gives a)
-  given-gives a p x e = rw (given-once e) at p
+module _ (s t : List ℕ) (n : ℕ) (agree : take n s ≡ take n t) (at : ℕ) (here : at + 3 ≤ n) where
+  pub same-count : (limit side : ℕ) → countAt s at limit side ≡ countAt t at limit side
+  unfolding countAt
+  same-count limit side = rw (same-number s t n agree at here mostNumber side)
 
-  pub given-test : (t : Bool) (a b : Answer A) → Given a → Given b → Given (cond t a b)
-  given-test true a b first other = first
-  given-test false a b first other = other
-
-pub given-then : {A B : Type 0} (P : B → Type 0) (a : Answer A) (k : A → Answer B) → ((x : A) → a ≡ gives x → Given P (k x)) → Given P (a then k)
-given-then P (gives v) k rest = rest v refl
-given-then P (refuses r) k rest = λ x e. absurd (never e)
+  pub same-code : (known : ℕ → Bool) (side : ℕ) → codeAt s at known side ≡ codeAt t at known side
+  unfolding codeAt
+  same-code known side = rw (same-number s t n agree at here mostNumber side)
