@@ -2,6 +2,7 @@ pub mod Accepted
 pub mod Cases
 pub mod FactBytes
 pub mod Faults
+pub mod Left
 pub mod Longest
 pub mod OneAnswer
 pub mod Pushing

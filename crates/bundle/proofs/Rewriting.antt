@@ -1,5 +1,5 @@
 -- Writing an accepted bundle's facts: the loop's turns, the two passes put together, and the law that the same bytes come out.
-use Prim.Native.Nat.{ℕ, suc, _+_, _-_, _≤_, _<_}
+use Prim.Native.Nat.{ℕ, _+_, _-_, _≤_, _<_}
 use mathlib.Core.Path.{_≡_, refl, sym, ap, _∙_}
 use mathlib.Core.Bool.{Bool, true, false, _&&_, not}
 use mathlib.Core.List.{List, [], _∷_}
@@ -37,6 +37,7 @@ use Rattle.bundle.specs.declared.writing.BundleWrote.the-variants.{Refus
 use Rattle.bundle.proofs.Runs.{Run}
 use Rattle.bundle.proofs.Runs.Run.{stop, more}
 use Rattle.bundle.proofs.Accepted.{lawful-fact, BundleThere, bundle-there}
+use Rattle.bundle.proofs.Left.{none-left, facts-stop, facts-more}
 use Rattle.bundle.proofs.Longest.{declared-low}
 use Rattle.bundle.proofs.RoundTrips.{accepted-again}
 use Rattle.bundle.proofs.Faults.{Sound}
@@ -85,26 +86,6 @@ pub record Pushing (h : Head) (out₀ s : List ℕ) (w₀ : Writing) (n start : 
 pub pass-starts : (h : Head) (out s : List ℕ) (w : Writing) (n start : ℕ) → Pushing h out s w n start out w n start
 pass-starts h out s w n start = record { same-room = refl; state = refl; memory = refl }
 
--- the facts from a place on
-module _ (s : List ℕ) (at : ℕ) (got : FactRead) (is : factTold got ≡ factAt (λ _. true) s at) where
-  one-on : (f : Fact) (next : ℕ) → got ≡ ReadFact f next → (n : ℕ) → factsIn s (suc n) at ≡ f ∷ factsIn s n next
-  unfolding factsIn
-  one-on f next read n = rw (← is, read)
-
-  one-stop : (x : Refusal) → got ≡ RefusedFact x → (n : ℕ) → factsIn s (suc n) at ≡ []
-  unfolding factsIn
-  one-stop x stopped n = rw (← is, stopped)
-
-  module _ (left : ℕ) (some : 0 < left) where
-    opened : left ≡ suc (left - 1)
-    opened = omega arith
-
-    facts-on : (f : Fact) (next : ℕ) → got ≡ ReadFact f next → factsIn s left at ≡ f ∷ factsIn s (left - 1) next
-    facts-on f next read = ap (λ n. factsIn s n at) opened ∙ one-on f next read (left - 1)
-
-    facts-stop : (x : Refusal) → got ≡ RefusedFact x → factsIn s left at ≡ []
-    facts-stop x stopped = ap (λ n. factsIn s n at) opened ∙ one-stop x stopped (left - 1)
-
 abbrev AsLong : List ℕ → List ℕ → Type 0
 AsLong out l = length l ≡ length out
 
@@ -136,7 +117,7 @@ module _ (h : Head) (out₀ s : List ℕ) (w₀ : Writing) (n start : ℕ) (out 
   pub pass-on : 0 < left → (got : FactRead) → factTold got ≡ factAt (λ _. true) s at → (f : Fact) (next : ℕ) → got ≡ ReadFact f next
       → (w′ : Writing) (out′ : List ℕ) → Pushes h out w f w′ out′ → Pushing h out₀ s w₀ n start out′ w′ (left - 1) next
   pass-on k got is f next read w′ out′ p =
-      let facts = facts-on s at got is left k f next read in
+      let facts = facts-more s left at k got is f next read in
       let rest : List Fact = factsIn s (left - 1) next in
       let moved : placed (length out₀) (judged h w f) f ≡ w′ = ap (λ r. placed r (judged h w f) f) (sym (inv .same-room)) ∙ sym (p .state) in
       record {
@@ -154,11 +135,10 @@ module _ (h : Head) (out₀ s : List ℕ) (w₀ : Writing) (b : Facts) (out : Li
       record { state = sym (inv .state ∙ ap (stateAfter h (length out₀) w) e); memory = sym (inv .memory ∙ ap (memoryAfter h out w) e) }
 
   pub pass-stops : 0 < left → (got : FactRead) → factTold got ≡ factAt (λ _. true) s at → (x : Refusal) → got ≡ RefusedFact x → PushesAll h out₀ s b w₀ w out
-  pass-stops k got is x stopped = stopped-here (facts-stop s at got is left k x stopped)
+  pass-stops k got is x stopped = stopped-here (facts-stop s left at k got is x stopped)
 
   pub pass-ends : left ≤ 0 → PushesAll h out₀ s b w₀ w out
-  unfolding factsIn
-  pass-ends k = stopped-here (let e : left ≡ 0 = omega arith in ap (λ n. factsIn s n at) e)
+  pass-ends k = stopped-here (none-left s left at k)
 
 -- each pass from its start
 module _ (h : Head) (out s : List ℕ) (b : Facts) (w₀ : Writing) where

@@ -19,6 +19,7 @@ use Rattle.site.specs.declared.fact.Fact.{Fact}
 use Rattle.site.specs.Codes.{predicateDeclared}
 use Rattle.site.specs.Kinds.{ofConcept}
 use Rattle.site.specs.Limits.{mostFacts, mostNumber, mostThing}
+use Rattle.site.proofs.Lists.{same-test}
 use Rattle.rules.specs.declared.head.Head.{Head}
 use Rattle.bundle.specs.Bundle.{Last, ascends, factBytes, predicateKnown}
 use Rattle.bundle.specs.Records.{recordFault}
@@ -125,11 +126,6 @@ module _ (w : Writing) where
   settled-short h = rw (le-ltb 0 (w .fault) h)
 
 -- is there room?
-same-test : (t u : Bool) → (t ≡ true → u ≡ true) → (u ≡ true → t ≡ true) → t ≡ u
-same-test true u to from = sym (to refl)
-same-test false true to from = from refl
-same-test false false to from = refl
-
 module _ (room at size : ℕ) where
   pub room-before : room < at → false ≡ leb (at + size) room
   room-before h = rw (lt-leb (at + size) room (omega arith))
@@ -182,9 +178,9 @@ formed-judged h w f e =
     e
 
 -- one more record
-or-left : (a b : Bool) → (a || b) ≡ false → a ≡ false
-or-left true b e = absurd (true≢false e)
-or-left false b e = refl
+first-fails : (a b : Bool) → (a || b) ≡ false → a ≡ false
+first-fails true b e = absurd (true≢false e)
+first-fails false b e = refl
 
 module _ (h : Head) (out : List ℕ) (w : Writing) (f : Fact) (x : Writing) (is-x : x ≡ judged h w f) (t : Bool) (is-t : t ≡ settled x) where
   settles : settled (judged h w f) ≡ t
@@ -207,7 +203,7 @@ module _ (h : Head) (out : List ℕ) (w : Writing) (f : Fact) (x : Writing) (is-
     module _ (fits : not u ≡ false) where
       pub push-fits : StoresFact out (x .at) f
       push-fits =
-          let formed = formed-judged h w f (or-left _ _ (settles ∙ open-yet)) in
+          let formed = formed-judged h w f (first-fails _ _ (settles ∙ open-yet)) in
           record {
             predicate-formed = formed .predicate;
             subject-formed = formed .subject;

@@ -20,7 +20,8 @@ use Rattle.clean.specs.Marks.{mark, marked, partner}
 use Rattle.clean.specs.Coded.{bitsFollow, supportsCoded, supportIn}
 use Rattle.clean.specs.declared.answers.Judged.{Judged}
 use Rattle.clean.specs.declared.types.Typ.{Typ}
-use Rattle.clean.proofs.OfWalks.{facts-stop, facts-more, Seeking, seek-start, seek-ends, seek-stops, seek-found, seek-on}
+use Rattle.bundle.proofs.Left.{facts-stop, facts-more}
+use Rattle.clean.proofs.OfWalks.{Seeking, seek-start, seek-ends, seek-stops, seek-found, seek-on}
 
 abbrev no-fact : Fact
 no-fact = record { predicate = 0; subject = 0; object = 0 }

@@ -19,7 +19,7 @@ use Rattle.clean.specs.Marks.{alone, contradict, clash, mark, partner}
 use Rattle.clean.specs.Coded.{bitsFollow}
 use Rattle.clean.specs.declared.answers.Judged.{Judged}
 use Rattle.clean.proofs.OfSearch.{alone-by-table}
-use Rattle.clean.proofs.OfWalks.{facts-few}
+use Rattle.bundle.proofs.Left.{facts-few}
 
 -- a fact that clashes with some fact is not alone
 module _ (t : Follows) (facts : List Fact) (f : Fact) where

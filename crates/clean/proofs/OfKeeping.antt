@@ -32,7 +32,7 @@ use Rattle.clean.specs.Marks.{mark, marked, partner, kept}
 use Rattle.clean.specs.Keeping.{keptBytes, measureOf, measuredWith, SmallMeasure, StoresIf, StoredIf, StoredKept}
 use Rattle.clean.specs.declared.answers.Judged.{Judged}
 use Rattle.clean.specs.declared.keep.Measure.{Measure}
-use Rattle.clean.proofs.OfWalks.{none-left, facts-stop, facts-more}
+use Rattle.bundle.proofs.Left.{none-left, facts-stop, facts-more}
 
 -- one fact
 pub kept-is : (t : Follows) (whole : List Fact) (f : Fact) (j : Judged) → j ≡ record { mark = mark itself t whole f; partner = partner itself t whole f }

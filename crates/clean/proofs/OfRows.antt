@@ -30,7 +30,7 @@ use Rattle.clean.specs.Marks.{alone, clash, mark, partner, marks, partne
 use Rattle.clean.specs.Tally.{noCounts, oneIf, OneIf, tallied, Small, Marks}
 use Rattle.clean.specs.declared.answers.Counts.{Counts}
 use Rattle.clean.specs.declared.answers.Judged.{Judged}
-use Rattle.clean.proofs.OfWalks.{none-left, facts-stop, facts-more, facts-few}
+use Rattle.bundle.proofs.Left.{none-left, facts-stop, facts-more, facts-few}
 
 -- one mark
 pub one-is : (mark wanted : ℕ) → mark ≡ wanted → OneIf mark wanted 1

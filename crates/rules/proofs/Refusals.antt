@@ -32,7 +32,7 @@ module _ (s : List ℕ) where
   Placed a = Refuses (InRules s) a
 
   -- the head
-  pub head-placed : Placed (headOf s)
+  head-placed : Placed (headOf s)
   unfolding headOf
   head-placed =
       refuses-then _ (countAt s 0 mostConcepts 0) _ (count-placed 0 7 s seven 0 mostConcepts (omega arith))
@@ -42,7 +42,7 @@ module _ (s : List ℕ) where
       refuses-then _ (countAt s (q .next) mostRules 0) _ (count-placed 0 7 s seven (q .next) mostRules (after-count 0 s (c .next) mostRoles q f))
       (λ n g. refuses-gives _ _)))
 
-  pub head-inside : Given (λ h. h .start ≤ length s) (headOf s)
+  head-inside : Given (λ h. h .start ≤ length s) (headOf s)
   unfolding headOf
   head-inside =
       given-then _ (countAt s 0 mostConcepts 0) _
@@ -54,7 +54,7 @@ module _ (s : List ℕ) where
 
   module _ (h : Head) where
     -- one rule
-    pub rule-placed : (at : ℕ) → at ≤ length s → Placed (ruleAt h s at)
+    rule-placed : (at : ℕ) → at ≤ length s → Placed (ruleAt h s at)
     unfolding ruleAt
     rule-placed at inside =
         refuses-then _ (codeAt s at (λ kind. leb kind lastKind) 0) _ (code-placed 0 7 s seven (λ kind. leb kind lastKind) at inside)
@@ -67,7 +67,7 @@ module _ (s : List ℕ) where
         (code-placed 0 7 s seven (codeDeclared h (kind .value)) (x .next) (after-code 0 s (codeDeclared h (kind .value)) (kind .next) x f))
         (λ y g. refuses-gives _ _))))
 
-    pub rule-inside : (at : ℕ) → Given (λ r. r .next ≤ length s) (ruleAt h s at)
+    rule-inside : (at : ℕ) → Given (λ r. r .next ≤ length s) (ruleAt h s at)
     unfolding ruleAt
     rule-inside at =
         given-then _ (codeAt s at (λ kind. leb kind lastKind) 0) _
@@ -85,14 +85,14 @@ module _ (s : List ℕ) where
         code-starts 0 s (λ kind. leb kind lastKind) at (w .value) (w .first)
 
     -- the rules
-    pub rules-placed : (n at : ℕ) → at ≤ length s → Placed (rulesFrom h s n at)
+    rules-placed : (n at : ℕ) → at ≤ length s → Placed (rulesFrom h s n at)
     unfolding rulesFrom
     rules-placed zero at inside = refuses-gives _ at
     rules-placed (suc n) at inside =
         refuses-then _ (ruleAt h s at) (λ r. rulesFrom h s n (r .next)) (rule-placed at inside) (λ r e. rules-placed n (r .next) (rule-inside at r e))
 
     -- refusal 6
-    pub unbroken-placed : (rules : List Rule) (n at : ℕ) → at ≤ length s → Placed (unbroken h s rules n at)
+    unbroken-placed : (rules : List Rule) (n at : ℕ) → at ≤ length s → Placed (unbroken h s rules n at)
     unfolding unbroken
     unbroken-placed rules zero at inside = refuses-gives _ at
     unbroken-placed rules (suc n) at inside =
@@ -101,7 +101,7 @@ module _ (s : List ℕ) where
         refuses-test _ (broken rules (r .value)) _ _ (refuses-so _ (refusal 6 0 at) (at-a-byte 0 7 s 6 at (omega arith) (omega arith) (rule-starts at r e))) (unbroken-placed rules n (r .next) (rule-inside at r e)))
 
   -- refusal 7
-  pub after-placed : (h : Head) (end : ℕ) → h .start ≤ length s → Placed (afterRules s h end)
+  after-placed : (h : Head) (end : ℕ) → h .start ≤ length s → Placed (afterRules s h end)
   unfolding afterRules
   after-placed h end start =
       refuses-then _ (endAt s end 0) _ (end-placed 0 7 s seven end)
