@@ -80,10 +80,6 @@ module _ (t : Follows) (whole : List Fact) where
   abbrev left-bytes : List Fact → List ℕ
   left-bytes rest = each factBytes (left-kept rest)
 
-  all-bytes : left-bytes whole ≡ keptBytes t whole
-  unfolding keptBytes kept
-  all-bytes = refl
-
   no-bytes : {rest : List Fact} → rest ≡ [] → left-bytes rest ≡ []
   unfolding keep each
   no-bytes e = rw e
