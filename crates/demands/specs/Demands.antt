@@ -8,7 +8,6 @@ use mathlib.Core.List.{List, [], _∷_, _++_, map}
 use lib.ListN.{length, getD, take, drop, replicate}
 use denote.Ref.{now}
 use Rattle.number.specs.Answer.Answer.{gives}
-use Rattle.number.proofs.Laws.{Bytes}
 use Rattle.site.specs.Codes.{conceptOf, roleOf}
 use Rattle.site.specs.Kinds.{Site}
 use Rattle.site.specs.Limits.{mostRoles}
@@ -77,6 +76,10 @@ module _ {rules bundle : List ℕ} (a : BothRead rules bundle) where
   -- the kept facts, by document 01's marks
   abbrev pub keptFacts : List Fact
   keptFacts = kept itself (followsOf site) (a .facts)
+
+-- every element is a byte, as all that C lends as bytes is
+abbrev pub Bytes : List ℕ → Type 0
+Bytes s = (i : ℕ) → getD s i 0 < 256
 
 -- ---- Demand 2: "each ascending list of declared facts has one bundle (both round trips, to the byte)"
 pub record RoundTrips : Type 0 where
