@@ -4,7 +4,7 @@ use Prim.Native.Nat.{ℕ, zero, suc, _≤_, _<_}
 use mathlib.Core.Path.{_≡_, refl, sym, ap, subst, _∙_}
 use mathlib.Core.Bool.{Bool, true, false, cond, _&&_}
 use mathlib.Core.Logic.{_↔_}
-use mathlib.Core.List.{List, [], _∷_, map}
+use mathlib.Core.List.{List, [], _∷_, map, List·Memᴰ}
 use lib.Dec.{leb, ltb}
 use lib.ListN.{length, length-map, getD, take}
 use native.Mathlib.Omega.{arith}
@@ -16,19 +16,19 @@ use Rattle.site.specs.Codes.{conceptOf, roleOf, conceptDeclared, roleDeclared}
 use Rattle.site.specs.Kinds.Node.{concept, role}
 use Rattle.site.specs.Limits.{mostThing}
 use Rattle.site.specs.declared.fact.Fact.{Fact}
-use Rattle.site.proofs.Lists.{getD-within, and-left}
+use Rattle.site.proofs.Lists.{getD-within, and-left, and-right}
 use Rattle.rules.specs.RuleFile.{checkRules}
 use Rattle.rules.specs.declared.head.Head.{Head}
 use Rattle.bundle.specs.Bundle.{factsOf, checkBundle, readBundle, bundleOf}
 use Rattle.bundle.specs.Records.{roomFor}
 use Rattle.follows.specs.Tables.{Follows, followsOf}
 use Rattle.clean.specs.Types.{itself, Typ, typ}
-use Rattle.clean.specs.Marks.{mark, marks, partners, counts, kept, support}
+use Rattle.clean.specs.Marks.{mark, marks, partner, partners, counts, kept, support}
 use Rattle.clean.specs.Operations.{given, roomForMarks, Marked, marking, Reply, replyOf, thingKnown, having, joining, keeping}
 use Rattle.clean.specs.Operations.Reply.{yes-by, none}
 use Rattle.operations.specs.Promises.{opening}
 use Rattle.operations.proofs.OfKeptAgain.{kept-reads}
-use Rattle.worlds.specs.Worlds.{Is, Joins as Joined, Consistent, LeftOut, Always}
+use Rattle.worlds.specs.Worlds.{Is, Joins as Joined, Consistent, LeftOut, LowestConflict, Always}
 use Rattle.worlds.specs.Demand3.{WorldsDecide as Decided}
 use Rattle.worlds.proofs.Demand.{demand-3}
 use Rattle.dzyunagor.specs.Promises.{CheckBundle, Mark, Has, Joins, WriteKept}
@@ -137,46 +137,84 @@ module _ {rules bundle : List ℕ} (a : BothRead rules bundle) (r : DzyAnswer) (
         let seen : r ≡ shownReply (replyOf table (a .facts) (asked from to)) = p ∙ ap shownAnswer (g .is) ∙ ap shownReply reply in
         through (reply-seen table (a .facts) (asked from to) r seen) (worlds a .of-pair code from to declared (first .0) (second .0))
 
--- ---- marks: the byte of a fact is its mark
+-- ---- marks and partners: what stands in a row for a fact
 module _ {rules bundle : List ℕ} (a : BothRead rules bundle) where
-  abbrev markings : List ℕ
-  markings = marks itself (followsOf (site a)) (a .facts)
+  abbrev tables : Follows
+  tables = followsOf (site a)
 
-  many : length markings ≡ length (a .facts)
-  unfolding marks
-  many = length-map (a .facts) (mark itself (followsOf (site a)) (a .facts))
+  -- a row of what each fact has, at a fact that is there, whatever stands for one that is not
+  row-at : (f : Fact → ℕ) (l : List Fact) (k : ℕ) (d : Fact) → k < length l → getD (map f l) k 0 ≡ f (getD l k d)
+  row-at f [] k d less = absurd (omega arith)
+  row-at f (x ∷ xs) zero d less = refl
+  row-at f (x ∷ xs) (suc k) d less = row-at f xs k d (omega arith)
 
-  -- the mark of a fact that is there, whatever stands for one that is not
-  mark-at : (k : ℕ) (d : Fact) → k < length (a .facts) → getD markings k 0 ≡ mark itself (followsOf (site a)) (a .facts) (getD (a .facts) k d)
-  unfolding marks
-  mark-at k d less = within (a .facts) k less
-    where
-      within : (l : List Fact) (k : ℕ) → k < length l → getD (map (mark itself (followsOf (site a)) (a .facts)) l) k 0 ≡ mark itself (followsOf (site a)) (a .facts) (getD l k d)
-      within [] k less = absurd (omega arith)
-      within (x ∷ xs) zero less = refl
-      within (x ∷ xs) (suc k) less = within xs k (omega arith)
+  laid-row : (out : List ℕ) (f : Fact → ℕ) → length (a .facts) ≤ length out → (k : ℕ) (d : Fact) → k < length (a .facts) → getD (laid out 0 (gives (map f (a .facts)))) k 0 ≡ f (getD (a .facts) k d)
+  laid-row out f fits k d less =
+      laid-at out (map f (a .facts)) (omega (arith, length-map (a .facts) f)) k 0 (omega (arith, length-map (a .facts) f)) ∙ row-at f (a .facts) k d less
 
   module _ (row pair : List ℕ) where
     abbrev markingOf : Head → Follows → List Fact → Answer Marked
     markingOf h t facts = roomForMarks (length row) (length pair) facts then λ _. gives (record { counts = counts itself t facts; marks = marks itself t facts; partners = partners itself t facts })
 
-    marking-is : marking rules bundle (length row) (length pair) ≡ markingOf (a .head) (followsOf (site a)) (a .facts)
+    marking-is : marking rules bundle (length row) (length pair) ≡ markingOf (a .head) tables (a .facts)
     unfolding marking
     marking-is = given-is a markingOf
 
-    dropped-seen : (row′ pair′ : List ℕ) (r : DzyCounts) → Mark rules bundle row pair r row′ pair′ → r .refused .number ≡ 0 → (k : ℕ) (d : Fact) → k < length (a .facts)
-        → (getD row′ k 0 ≡ 0 → ⊥) ↔ LeftOut itself (site a) (a .facts) (getD (a .facts) k d)
-    unfolding roomForMarks
-    dropped-seen row′ pair′ r p plain k d less =
-        let g = mark-tells rules bundle row pair row′ pair′ r p .given plain in
-        let w = went (roomForMarks (length row) (length pair) (a .facts)) _ (sym marking-is ∙ g .is) in
-        let room = passed (leb (length (a .facts)) (length row) && leb (length (a .facts)) (length pair)) (gives (a .facts)) (refusal 9 2 0) (w .first) .test in
-        let fits : length (a .facts) ≤ length row = leb-true (length (a .facts)) (length row) (and-left (leb (length (a .facts)) (length row)) _ room) in
-        let lies : row′ ≡ laid row 0 (gives markings) = p .marks ∙ ap (λ (m : Answer Marked). laid row 0 (over (λ x. x .marks) m)) (g .is ∙ sym (w .rest)) in
-        let byte : getD row′ k 0 ≡ mark itself (followsOf (site a)) (a .facts) (getD (a .facts) k d) =
-        ap (λ (l : List ℕ). getD l k 0) lies ∙ laid-at row markings (omega (arith, many)) k 0 (omega (arith, many)) ∙ mark-at k d less in
-        let decided = worlds a .dropped (getD (a .facts) k d) (getD-within (a .facts) k d less) in
-        (λ h. decided .0 (λ e. h (byte ∙ e)), λ out e. decided .1 out (sym byte ∙ e))
+    abbrev allMarked : Marked
+    allMarked = record { counts = counts itself tables (a .facts); marks = marks itself tables (a .facts); partners = partners itself tables (a .facts) }
+
+    -- what an answer that is no refusal says of the rows
+    record Roomy : Type 0 where
+      is : marking rules bundle (length row) (length pair) ≡ gives allMarked
+      long : length (a .facts) ≤ length row
+      wide : length (a .facts) ≤ length pair
+
+    module _ (row′ pair′ : List ℕ) (r : DzyCounts) (p : Mark rules bundle row pair r row′ pair′) (plain : r .refused .number ≡ 0) where
+      roomy : Roomy
+      unfolding roomForMarks
+      roomy =
+          let g = mark-tells rules bundle row pair row′ pair′ r p .given plain in
+          let w = went (roomForMarks (length row) (length pair) (a .facts)) _ (sym marking-is ∙ g .is) in
+          let room = passed (leb (length (a .facts)) (length row) && leb (length (a .facts)) (length pair)) (gives (a .facts)) (refusal 9 2 0) (w .first) .test in
+          record {
+            is = g .is ∙ sym (w .rest);
+            long = leb-true (length (a .facts)) (length row) (and-left (leb (length (a .facts)) (length row)) _ room);
+            wide = leb-true (length (a .facts)) (length pair) (and-right (leb (length (a .facts)) (length row)) _ room);
+          }
+
+      row-is : row′ ≡ laid row 0 (gives (marks itself tables (a .facts)))
+      row-is = p .marks ∙ ap (λ (m : Answer Marked). laid row 0 (over (λ x. x .marks) m)) (roomy .is)
+
+      pair-is : pair′ ≡ laid pair 0 (gives (partners itself tables (a .facts)))
+      pair-is = p .partners ∙ ap (λ (m : Answer Marked). laid pair 0 (over (λ x. x .partners) m)) (roomy .is)
+
+      module _ (k : ℕ) (d : Fact) (less : k < length (a .facts)) where
+        abbrev asked : Fact
+        asked = getD (a .facts) k d
+
+        mark-seen : getD row′ k 0 ≡ mark itself tables (a .facts) asked
+        unfolding marks
+        mark-seen = ap (λ (l : List ℕ). getD l k 0) row-is ∙ laid-row row (mark itself tables (a .facts)) (roomy .long) k d less
+
+        partner-is : getD pair′ k 0 ≡ partner itself tables (a .facts) asked
+        unfolding partners
+        partner-is = ap (λ (l : List ℕ). getD l k 0) pair-is ∙ laid-row pair (partner itself tables (a .facts)) (roomy .wide) k d less
+
+        here : List·Memᴰ asked (a .facts)
+        here = getD-within (a .facts) k d less
+
+        dropped-seen : (getD row′ k 0 ≡ 0 → ⊥) ↔ LeftOut itself (site a) (a .facts) asked
+        dropped-seen =
+            let decided = worlds a .dropped asked here in
+            (λ h. decided .0 (λ e. h (mark-seen ∙ e)), λ out e. decided .1 out (sym mark-seen ∙ e))
+
+        alone-seen : (getD row′ k 0 ≡ 1) ↔ (Consistent itself (site a) (asked ∷ []) → ⊥)
+        alone-seen =
+            let decided = worlds a .alone asked here in
+            (λ h. decided .0 (sym mark-seen ∙ h), λ none. mark-seen ∙ decided .1 none)
+
+        partner-seen : getD row′ k 0 ≡ 2 → LowestConflict itself (site a) (a .facts) asked (getD pair′ k 0)
+        partner-seen e = subst (LowestConflict itself (site a) (a .facts) asked) (sym partner-is) (worlds a .partner-of asked here (sym mark-seen ∙ e))
 
 -- ---- the kept facts
 module _ {rules bundle : List ℕ} (a : BothRead rules bundle) (out out′ : List ℕ) (r : DzyLength) (p : WriteKept rules bundle out r out′) (plain : r .refused .number ≡ 0) where
@@ -212,6 +250,8 @@ worlds-decide =
     record {
       read = both-read;
       dropped = λ rules bundle row pair row′ pair′ r p plain a k d less. dropped-seen a row pair row′ pair′ r p plain k d less;
+      alone = λ rules bundle row pair row′ pair′ r p plain a k d less. alone-seen a row pair row′ pair′ r p plain k d less;
+      partner = λ rules bundle row pair row′ pair′ r p plain a k d less. partner-seen a row pair row′ pair′ r p plain k d less;
       consistent = λ rules bundle out out′ r p plain a. consistent-seen a out out′ r p plain;
       has = λ rules bundle code thing r p plain a. has-decided a r plain code thing p;
       joins = λ rules bundle code from to r p plain a. joins-decided a r plain code from to p;

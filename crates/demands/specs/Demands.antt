@@ -22,7 +22,7 @@ use Rattle.records.specs.declared.reader.Reader.{Reader}
 use Rattle.follows.specs.Tables.{followsOf}
 use Rattle.clean.specs.Types.{itself}
 use Rattle.clean.specs.Marks.{kept}
-use Rattle.worlds.specs.Worlds.{Is, Joins as Joined, Consistent, LeftOut, Always}
+use Rattle.worlds.specs.Worlds.{Is, Joins as Joined, Consistent, LeftOut, LowestConflict, Always}
 use Rattle.dzyunagor.specs.Promises.{CheckRules, CheckBundle, Mark, Count, Ask, Has, Joins, WriteKept, Records, WriteRecords, ReaderStart, ReaderNext}
 use Rattle.dzyunagor.specs.Shown.{shownFound}
 use Rattle.dzyunagor.specs.declared.shapes.DzyCounts.{DzyCounts}
@@ -117,6 +117,12 @@ pub record WorldsDecide : Type 1 where
   -- "dropped = left out by some maximal consistent set": the mark's byte is not 0
   pub dropped : (rules bundle row pair row′ pair′ : List ℕ) (r : DzyCounts) → Mark rules bundle row pair r row′ pair′ → r .refused .number ≡ 0
       → (a : BothRead rules bundle) (k : ℕ) (d : Fact) → k < length (a .facts) → (getD row′ k 0 ≡ 0 → ⊥) ↔ LeftOut itself (site a) (a .facts) (getD (a .facts) k d)
+  -- "1 alone": no world by itself
+  pub alone : (rules bundle row pair row′ pair′ : List ℕ) (r : DzyCounts) → Mark rules bundle row pair r row′ pair′ → r .refused .number ≡ 0
+      → (a : BothRead rules bundle) (k : ℕ) (d : Fact) → k < length (a .facts) → (getD row′ k 0 ≡ 1) ↔ (Consistent itself (site a) (getD (a .facts) k d ∷ []) → ⊥)
+  -- "2 disputed": its partner is the lowest-numbered fact with which it has no world, though each has one
+  pub partner : (rules bundle row pair row′ pair′ : List ℕ) (r : DzyCounts) → Mark rules bundle row pair r row′ pair′ → r .refused .number ≡ 0
+      → (a : BothRead rules bundle) (k : ℕ) (d : Fact) → k < length (a .facts) → getD row′ k 0 ≡ 2 → LowestConflict itself (site a) (a .facts) (getD (a .facts) k d) (getD pair′ k 0)
   -- "kept facts are consistent": what is written is their bundle
   pub consistent : (rules bundle out out′ : List ℕ) (r : DzyLength) → WriteKept rules bundle out r out′ → r .refused .number ≡ 0
       → (a : BothRead rules bundle) → (readBundle (a .head) (take (r .length) out′) ≡ gives (keptFacts a)) × Consistent itself (site a) (keptFacts a)

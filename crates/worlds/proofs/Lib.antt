@@ -4,6 +4,7 @@ pub mod Chase
 pub mod Repairs
 pub mod Told
 pub mod Canonical
+pub mod Conflicts
 pub mod Consistency
 pub mod Dropped
 pub mod Answered

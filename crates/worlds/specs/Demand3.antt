@@ -3,7 +3,7 @@ use Prim.Native.Nat.{ℕ, _≤_, _<_}
 use mathlib.Core.Path.{_≡_}
 use mathlib.Core.Bool.{true}
 use mathlib.Core.Logic.{_↔_}
-use mathlib.Core.List.{List, List·Memᴰ}
+use mathlib.Core.List.{List, [], _∷_, List·Memᴰ}
 use lib.ListN.{length}
 use Rattle.number.specs.Answer.Answer.{gives}
 use Rattle.site.specs.declared.fact.Fact.{Fact}
@@ -16,13 +16,17 @@ use Rattle.rules.specs.RuleFile.{checkRules, siteOf}
 use Rattle.bundle.specs.Bundle.{readBundle}
 use Rattle.follows.specs.Tables.{followsOf}
 use Rattle.clean.specs.Types.{itself, typ}
-use Rattle.clean.specs.Marks.{mark, kept, support}
-use Rattle.worlds.specs.Worlds.{Is, Joins, Consistent, LeftOut, Always}
+use Rattle.clean.specs.Marks.{mark, partner, kept, support}
+use Rattle.worlds.specs.Worlds.{Is, Joins, Consistent, LeftOut, LowestConflict, Always}
 
 -- the statement for a site's rules and facts
 pub record WorldsDecide (h : Head) (s : Site) (facts : List Fact) : Type 1 where
   -- "dropped = left out by some maximal consistent set"
   pub dropped : (f : Fact) → List·Memᴰ f facts → (mark itself (followsOf s) facts f ≡ 0 → ⊥) ↔ LeftOut itself s facts f
+  -- "Alone": no world by itself
+  pub alone : (f : Fact) → List·Memᴰ f facts → (mark itself (followsOf s) facts f ≡ 1) ↔ (Consistent itself s (f ∷ []) → ⊥)
+  -- "disputed": the partner is the lowest-numbered fact with which it has no world, though each has one
+  pub partner-of : (f : Fact) → List·Memᴰ f facts → mark itself (followsOf s) facts f ≡ 2 → LowestConflict itself s facts f (partner itself (followsOf s) facts f)
   -- "kept facts are consistent"
   pub consistent : Consistent itself s (kept itself (followsOf s) facts)
   -- "yes = true in every world of rules and kept facts", for "B of a"

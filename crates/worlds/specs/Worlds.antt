@@ -1,8 +1,9 @@
 -- Worlds: what the customer means by a fact that nobody disputes and by a question that is answered yes.
-use Prim.Native.Nat.{ℕ, _-_, _≤_}
+use Prim.Native.Nat.{ℕ, _-_, _≤_, _<_}
 use mathlib.Core.Path.{_≡_}
 use mathlib.Core.Bool.{Bool, true, false}
-use mathlib.Core.List.{List, _∷_, List·Memᴰ}
+use mathlib.Core.List.{List, [], _∷_, List·Memᴰ}
+use lib.ListN.{length, getD}
 use Rattle.site.specs.declared.fact.Fact.{Fact}
 use Rattle.site.specs.Kinds.{BasicRole, BasicConcept, Rule, Site, ofConcept}
 use Rattle.site.specs.Kinds.BasicRole.{forward, inverse}
@@ -70,6 +71,18 @@ module _ (ρ : ℕ → ℕ) (s : Site) where
   -- "dropped = left out by some maximal consistent set"
   abbrev pub LeftOut : List Fact → Fact → Type 1
   LeftOut facts f = (set : List Fact) × Maximal facts set × (List·Memᴰ f set → ⊥)
+
+  -- two facts that clash: each has a world, and both together have none
+  pub record Conflict (f g : Fact) : Type 1 where
+    pub first : Consistent (f ∷ [])
+    pub second : Consistent (g ∷ [])
+    pub both : Consistent (f ∷ g ∷ []) → ⊥
+
+  -- "the lowest-numbered fact it clashes with"
+  pub record LowestConflict (facts : List Fact) (f : Fact) (n : ℕ) : Type 1 where
+    pub inside : n < length facts
+    pub conflict : (d : Fact) → Conflict f (getD facts n d)
+    pub lowest : (d : Fact) (k : ℕ) → k < n → Conflict f (getD facts k d) → ⊥
 
   -- "yes = true in every world of rules and kept facts"
   abbrev pub Always : List Fact → ((w : World) → Type 0) → Type 1
