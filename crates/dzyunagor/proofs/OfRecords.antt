@@ -10,18 +10,17 @@ use Rattle.number.specs.declared.refusal.Refusal.{Refusal}
 use Rattle.site.specs.declared.fact.Fact.{Fact}
 use Rattle.records.specs.Reading.{readerStart}
 use Rattle.records.specs.Rows.{recordOf, handRecords, writeRow}
-use Rattle.records.specs.Told.{startTold, yieldTold, handed, Hands, Steps}
-use Rattle.records.specs.Written.{wroteRow, WritesRow}
+use Rattle.records.specs.Told.{startTold, yieldTold, rowAnswer, Hands, Steps}
+use Rattle.records.specs.Written.{WritesRow}
 use Rattle.records.specs.declared.record.Record.{Record}
 use Rattle.records.specs.declared.reader.Reader.{Reader}
-use Rattle.records.specs.declared.hand.Handed.{Handed}
-use Rattle.records.specs.declared.write.WroteRow.{WroteRow}
+use Rattle.records.specs.declared.answer.RowAnswer.{RowAnswer}
 use Rattle.records.specs.declared.step.Started.{Started}
 use Rattle.records.specs.declared.step.Started.the-variants.{At, Refused as NotStarted}
 use Rattle.records.specs.declared.step.Yield.{Yield}
 use Rattle.records.specs.declared.step.Yield.the-variants.{Fact as YieldsFact, Refused as NotYielded, Done}
 use Rattle.dzyunagor.specs.Promises.{Records, WriteRecords, ReaderStart, ReaderNext}
-use Rattle.dzyunagor.specs.Shown.{notRefused, refused, shownLength, shownHanded, shownWrote, shownStart, shownYield, noRecord}
+use Rattle.dzyunagor.specs.Shown.{notRefused, refused, shownLength, shownRow, shownStart, shownYield, noRecord}
 use Rattle.dzyunagor.specs.declared.shapes.DzyRefusal.{DzyRefusal}
 use Rattle.dzyunagor.specs.declared.shapes.DzyLength.{DzyLength}
 use Rattle.dzyunagor.specs.declared.shapes.DzyStart.{DzyStart}
@@ -46,23 +45,19 @@ module _ (x : DzyRefusal) where
     pub yield-refused : (a : Yield) (slot : Record) → slot ≡ noRecord → a ≡ NotYielded r → _≡_ {A = DzyYield} (record { refused = x; found = 0; fact = slot }) (shownYield (yieldTold a))
     yield-refused a slot is e = rw (e, told, is)
 
--- the two rows' answers are shown as lengths
-handed-shown : (a : Answer ℕ) → shownHanded (handed a) ≡ shownLength a
-handed-shown (gives n) = refl
-handed-shown (refuses r) = refl
-
-wrote-shown : (a : Answer ℕ) → shownWrote (wroteRow a) ≡ shownLength a
-wrote-shown (gives n) = refl
-wrote-shown (refuses r) = refl
+-- an answer over a row is shown as a length
+row-shown : (a : Answer ℕ) → shownRow (rowAnswer a) ≡ shownLength a
+row-shown (gives n) = refl
+row-shown (refuses r) = refl
 
 -- the operations
-pub records-handed : (rules bundle : List ℕ) (row row′ : List Record) (a : Handed) → Hands rules bundle row a row′ → (r : DzyLength) → r ≡ shownHanded a → Records rules bundle row r row′
+pub records-handed : (rules bundle : List ℕ) (row row′ : List Record) (a : RowAnswer) → Hands rules bundle row a row′ → (r : DzyLength) → r ≡ shownRow a → Records rules bundle row r row′
 records-handed rules bundle row row′ a h r e =
-    record { answer = e ∙ ap shownHanded (h .answer) ∙ handed-shown (over length (handRecords rules bundle (length row))); memory = h .memory }
+    record { answer = e ∙ ap shownRow (h .answer) ∙ row-shown (over length (handRecords rules bundle (length row))); memory = h .memory }
 
-pub records-written : (rules : List ℕ) (row : List Record) (out out′ : List ℕ) (a : WroteRow) → WritesRow rules row out a out′ → (r : DzyLength) → r ≡ shownWrote a → WriteRecords rules row out r out′
+pub records-written : (rules : List ℕ) (row : List Record) (out out′ : List ℕ) (a : RowAnswer) → WritesRow rules row out a out′ → (r : DzyLength) → r ≡ shownRow a → WriteRecords rules row out r out′
 records-written rules row out out′ a w r e =
-    record { answer = e ∙ ap shownWrote (w .answer) ∙ wrote-shown (over length (writeRow rules (length out) row)); memory = w .memory }
+    record { answer = e ∙ ap shownRow (w .answer) ∙ row-shown (over length (writeRow rules (length out) row)); memory = w .memory }
 
 pub reader-started : (rules bundle : List ℕ) (a : Started) → startTold a ≡ readerStart rules bundle → (r : DzyStart) → r ≡ shownStart (startTold a) → ReaderStart rules bundle r
 unfolding ReaderStart

@@ -12,8 +12,7 @@ use Rattle.records.specs.Reading.{Found}
 use Rattle.records.specs.Reading.Found.{fact, done}
 use Rattle.records.specs.Rows.{recordOf}
 use Rattle.records.specs.declared.record.Record.{Record}
-use Rattle.records.specs.declared.hand.Handed.{Handed}
-use Rattle.records.specs.declared.write.WroteRow.{WroteRow}
+use Rattle.records.specs.declared.answer.RowAnswer.{RowAnswer}
 use Rattle.dzyunagor.specs.declared.shapes.DzyRefusal.{DzyRefusal}
 use Rattle.dzyunagor.specs.declared.shapes.DzyCounts.{DzyCounts}
 use Rattle.dzyunagor.specs.declared.shapes.DzyAsked.{DzyAsked}
@@ -55,13 +54,9 @@ abbrev pub shownLength : Answer ℕ → DzyLength
 shownLength (gives n) = record { refused = notRefused; length = n }
 shownLength (refuses r) = record { refused = refused r; length = 0 }
 
--- the answers of the two rows of records, which C sees as a length
-abbrev pub shownHanded : Handed → DzyLength
-shownHanded h = record { refused = record { number = h .number; side = h .side; place = h .place }; length = h .count }
-
--- the answer of a row that was written
-abbrev pub shownWrote : WroteRow → DzyLength
-shownWrote w = record { refused = record { number = w .number; side = w .side; place = w .place }; length = w .length }
+-- an answer over a row of records, as a length
+abbrev pub shownRow : RowAnswer → DzyLength
+shownRow a = record { refused = record { number = a .number; side = a .side; place = a .place }; length = a .length }
 
 -- a reader's start, and what it yields: found 1 with the fact's record, or found 0 once it is done
 abbrev pub shownStart : Answer ℕ → DzyStart

@@ -20,10 +20,9 @@ use shapes::not_refused;
 use show::show_answer;
 use show::show_asked;
 use show::show_counts;
-use show::show_handed;
 use show::show_length;
+use show::show_row;
 use show::show_start;
-use show::show_wrote;
 use show::show_yield;
 
 // How many rules an accepted rule file has.
@@ -118,7 +117,7 @@ pub extern "C" fn dzy_write_kept(rules: &[u8], bundle: &[u8], out: &mut [u8]) ->
 pub extern "C" fn dzy_records(rules: &[u8], bundle: &[u8], row: &mut [Record]) -> DzyLength
     ensures { λ r. ⌜ Records (now (rules .entry)) (now (bundle .entry)) (now (row .entry)) r (now (row .exit)) ⌝ }
 {
-    show_handed(records::hand_records(rules, bundle, row))
+    show_row(records::hand_records(rules, bundle, row))
 }
 
 // A row of records as a bundle, into a lent output, and its length.
@@ -126,7 +125,7 @@ pub extern "C" fn dzy_records(rules: &[u8], bundle: &[u8], row: &mut [Record]) -
 pub extern "C" fn dzy_write_records(rules: &[u8], row: &[Record], out: &mut [u8]) -> DzyLength
     ensures { λ r. ⌜ WriteRecords (now (rules .entry)) (now (row .entry)) (now (out .entry)) r (now (out .exit)) ⌝ }
 {
-    show_wrote(records::write_records(rules, row, out))
+    show_row(records::write_records(rules, row, out))
 }
 
 // Where a reader of an accepted bundle starts; its caller puts it together from the bundle and this place.

@@ -3,7 +3,7 @@ ghost use mathlib.Core.Path.{_≡_};
 ghost use Rattle.bundle.specs.Pushed.{wroteTold};
 ghost use Rattle.operations.specs.Promises.{countedTold, askedTold, repliedTold};
 ghost use Rattle.records.specs.Told.{startTold, yieldTold};
-ghost use Rattle.dzyunagor.specs.Shown.{shownCounts, shownAsked, shownAnswer, shownLength, shownHanded, shownWrote, shownStart, shownYield, noRecord};
+ghost use Rattle.dzyunagor.specs.Shown.{shownCounts, shownAsked, shownAnswer, shownLength, shownRow, shownStart, shownYield, noRecord};
 use crate::shapes::DzyAnswer;
 use crate::shapes::DzyAsked;
 use crate::shapes::DzyCounts;
@@ -17,10 +17,9 @@ use bundle::BundleWrote;
 use operations::Asked;
 use operations::Counted;
 use operations::Replied;
-use records::Handed;
 use records::Record;
+use records::RowAnswer;
 use records::Started;
-use records::WroteRow;
 use records::Yield;
 
 pub fn show_counts(a: Counted) -> DzyCounts
@@ -98,21 +97,8 @@ pub fn show_length(a: BundleWrote) -> DzyLength
     }
 }
 
-pub fn show_handed(a: Handed) -> DzyLength
-    ensures { λ r. ⌜ r ≡ shownHanded a ⌝ }
-{
-    DzyLength {
-        refused: DzyRefusal {
-            number: a.number,
-            side: a.side,
-            place: a.place as u64,
-        },
-        length: a.count as u64,
-    }
-}
-
-pub fn show_wrote(a: WroteRow) -> DzyLength
-    ensures { λ r. ⌜ r ≡ shownWrote a ⌝ }
+pub fn show_row(a: RowAnswer) -> DzyLength
+    ensures { λ r. ⌜ r ≡ shownRow a ⌝ }
 {
     DzyLength {
         refused: DzyRefusal {

@@ -25,7 +25,7 @@ use Rattle.bundle.specs.declared.check.BundleRead.the-variants.{Accepted as Bun
 use Rattle.records.specs.Reading.{Stepped, readerStart, readerStep}
 use Rattle.records.specs.Reading.Found.{fact, done}
 use Rattle.records.specs.Rows.{recordOf, handOut, takeAt}
-use Rattle.records.specs.Told.{handed, decided}
+use Rattle.records.specs.Told.{rowAnswer, decided}
 use Rattle.records.specs.declared.record.Record.{Record}
 use Rattle.records.specs.declared.hand.Hand.{Hand}
 use Rattle.records.specs.declared.hand.Taken.{Taken}
@@ -63,7 +63,7 @@ module _ (rules bundle : List ℕ) (a : RulesRead) (is : rulesTold a ≡ checkRu
           rw (← is, read, ← is-b, accepted, ← is-count, lt-leb count room short) is-h
 
       pub hand-there : (room count : ℕ) → count ≡ facts .count → count ≤ room
-          → _≡_ {A = Hand} (record { count = count; start = facts .start; handed = handed (gives count) }) (decided (handOut rules bundle room))
+          → _≡_ {A = Hand} (record { count = count; start = facts .start; handed = rowAnswer (gives count) }) (decided (handOut rules bundle room))
       unfolding handOut
       hand-there room count is-count fits = rw (← is, read, ← is-b, accepted, ← is-count, le-leb count room fits)
 

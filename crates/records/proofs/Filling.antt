@@ -18,7 +18,7 @@ use Rattle.bundle.specs.Bundle.{factAt, checkBundle, factsIn, factsOf}
 use Rattle.bundle.specs.declared.facts.Facts.{Facts}
 use Rattle.bundle.proofs.Accepted.{accepted-count}
 use Rattle.records.specs.Rows.{recordOf, handOut, handRecords, takeAt}
-use Rattle.records.specs.Told.{handed, decided, Hands}
+use Rattle.records.specs.Told.{decided, Hands}
 use Rattle.records.specs.declared.record.Record.{Record}
 use Rattle.records.specs.declared.hand.Hand.{Hand}
 use Rattle.records.specs.declared.hand.Taken.{Taken}

@@ -16,8 +16,7 @@ use Rattle.records.specs.declared.step.Yield.{Yield}
 use Rattle.records.specs.declared.step.Yield.the-variants.{Fact, Refused as RefusedYield, Done}
 use Rattle.records.specs.declared.step.Step.{Step}
 use Rattle.records.specs.declared.reader.Reader.{Reader}
-use Rattle.records.specs.declared.hand.Handed.{Handed}
-use Rattle.records.specs.declared.write.WroteRow.{WroteRow}
+use Rattle.records.specs.declared.answer.RowAnswer.{RowAnswer}
 
 start-back : Answer ℕ → Started
 start-back (gives at) = At at
@@ -61,9 +60,9 @@ one-reader-step before y y′ after after′ s t =
     record { yields = yield-told-apart y y′ (one (s .yields) (t .yields)); reader = λ i. record { src = src i; at = at i } }
 
 -- handing out: the answer, and the row afterwards
-pub one-handing : (rules bundle : List ℕ) (row : List Record) (r r′ : Handed) (row₁ row₂ : List Record) → Hands rules bundle row r row₁ → Hands rules bundle row r′ row₂ → Same r r′ row₁ row₂
+pub one-handing : (rules bundle : List ℕ) (row : List Record) (r r′ : RowAnswer) (row₁ row₂ : List Record) → Hands rules bundle row r row₁ → Hands rules bundle row r′ row₂ → Same r r′ row₁ row₂
 one-handing rules bundle row r r′ row₁ row₂ h k = record { answer = one (h .answer) (k .answer); memory = one (h .memory) (k .memory) }
 
 -- writing: the answer, and the output afterwards
-pub one-writing : (rules : List ℕ) (row : List Record) (out : List ℕ) (r r′ : WroteRow) (out₁ out₂ : List ℕ) → WritesRow rules row out r out₁ → WritesRow rules row out r′ out₂ → Same r r′ out₁ out₂
+pub one-writing : (rules : List ℕ) (row : List Record) (out : List ℕ) (r r′ : RowAnswer) (out₁ out₂ : List ℕ) → WritesRow rules row out r out₁ → WritesRow rules row out r′ out₂ → Same r r′ out₁ out₂
 one-writing rules row out r r′ out₁ out₂ h k = record { answer = one (h .answer) (k .answer); memory = one (h .memory) (k .memory) }

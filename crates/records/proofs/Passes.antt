@@ -22,10 +22,11 @@ use Rattle.bundle.specs.declared.writing.BundleWrote.the-variants.{Written, Ref
 use Rattle.bundle.proofs.Pushing.{pass-keeps}
 use Rattle.bundle.proofs.TwoPasses.{start-storing, two-passes-of-records}
 use Rattle.records.specs.Rows.{factOf, writeRow}
-use Rattle.records.specs.Written.{openedBy, opened, PushesRow, TurnsOver, wroteRow, ended, WritesRow}
+use Rattle.records.specs.Told.{rowAnswer}
+use Rattle.records.specs.Written.{openedBy, opened, PushesRow, TurnsOver, ended, WritesRow}
 use Rattle.records.specs.declared.record.Record.{Record}
 use Rattle.records.specs.declared.write.Opening.{Opening}
-use Rattle.records.specs.declared.write.WroteRow.{WroteRow}
+use Rattle.records.specs.declared.answer.RowAnswer.{RowAnswer}
 use Rattle.records.proofs.OfRows.{few-roles}
 
 -- the start
@@ -48,17 +49,17 @@ module _ (o : Opening) where
   pub over-refused : (out : List ℕ) (first : Writing) → o .accepted ≡ false → TurnsOver o out first first out
   over-refused out first none = record { state = rw none; memory = rw none }
 
-  pub end-accepted : (last : Writing) (b : BundleWrote) (r : WroteRow) → wroteTold b ≡ answerOf last → r ≡ wroteRow (wroteTold b) → o .accepted ≡ true → r ≡ ended o last
+  pub end-accepted : (last : Writing) (b : BundleWrote) (r : RowAnswer) → wroteTold b ≡ answerOf last → r ≡ rowAnswer (wroteTold b) → o .accepted ≡ true → r ≡ ended o last
   end-accepted last b r is is-r taken = rw (taken, ← is) is-r
 
-  pub end-refused : (last : Writing) (r : WroteRow) → r ≡ wroteRow (refuses (o .refusal)) → o .accepted ≡ false → r ≡ ended o last
+  pub end-refused : (last : Writing) (r : RowAnswer) → r ≡ rowAnswer (refuses (o .refusal)) → o .accepted ≡ false → r ≡ ended o last
   end-refused last r is-r none = rw none is-r
 
 module _ (a : BundleWrote) where
-  pub told-written : (n : ℕ) → a ≡ Written n → _≡_ {A = WroteRow} (record { number = 0; side = 0; place = 0; length = n }) (wroteRow (wroteTold a))
+  pub told-written : (n : ℕ) → a ≡ Written n → _≡_ {A = RowAnswer} (record { number = 0; side = 0; place = 0; length = n }) (rowAnswer (wroteTold a))
   told-written n is = rw is
 
-  pub told-refused : (x : Refusal) (r : WroteRow) → a ≡ NotWritten x → r ≡ wroteRow (refuses x) → r ≡ wroteRow (wroteTold a)
+  pub told-refused : (x : Refusal) (r : RowAnswer) → a ≡ NotWritten x → r ≡ rowAnswer (refuses x) → r ≡ rowAnswer (wroteTold a)
   told-refused x r is is-r = rw is is-r
 
 pub push-of : (h : Head) (out : List ℕ) (w : Writing) (slot : Record) (f : Fact) (r : Writing) (out′ : List ℕ) → f ≡ factOf slot → Pushes h out w f r out′ → Pushes h out w (factOf slot) r out′
@@ -148,7 +149,7 @@ module _ (rules : List ℕ) (row : List Record) (out : List ℕ) (first second l
       ∙ ap (λ (l : List ℕ). memoryAfter h l (secondStart (length facts) (length out) (firstState h (length out) facts)) facts) is-out₂ in
       let two = two-passes-of-records h (few-roles rules h e) out facts in
       record {
-        answer = rw e (ap wroteRow (ap answerOf is-last ∙ two .answer));
+        answer = rw e (ap rowAnswer (ap answerOf is-last ∙ two .answer));
         memory = rw e (is-out₃ ∙ two .memory);
       }
 

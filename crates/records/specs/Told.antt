@@ -17,7 +17,7 @@ use Rattle.records.specs.declared.step.Yield.the-variants.{Fact, Refused
 use Rattle.records.specs.declared.step.Step.{Step}
 use Rattle.records.specs.declared.reader.Reader.{Reader}
 use Rattle.records.specs.declared.record.Record.{Record}
-use Rattle.records.specs.declared.hand.Handed.{Handed}
+use Rattle.records.specs.declared.answer.RowAnswer.{RowAnswer}
 use Rattle.records.specs.declared.hand.Hand.{Hand}
 
 -- a start: the place after the count, or the refusal
@@ -41,17 +41,17 @@ pub record Steps (before : Reader) (y : Yield) (after : Reader) : Type 0 where
   pub bundle : after .src ≡ before .src
   pub next : after .at ≡ readerStep (now (before .src)) (before .at) .next
 
--- an answer to the handing out: the count, or the refusal's number, side and place
-abbrev pub handed : Answer ℕ → Handed
-handed (gives count) = record { number = 0; side = 0; place = 0; count = count }
-handed (refuses r) = record { number = r .number; side = r .side; place = r .place; count = 0 }
+-- "gives their count", "gives their bundle and its length": an answer over a row, or the refusal's number, side and place
+abbrev pub rowAnswer : Answer ℕ → RowAnswer
+rowAnswer (gives length) = record { number = 0; side = 0; place = 0; length = length }
+rowAnswer (refuses r) = record { number = r .number; side = r .side; place = r .place; length = 0 }
 
 -- what is handed out, with the answer: nothing where there is a refusal
 abbrev pub decided : Answer Facts → Hand
-decided (gives b) = record { count = b .count; start = b .start; handed = handed (gives (b .count)) }
-decided (refuses r) = record { count = 0; start = 0; handed = handed (refuses r) }
+decided (gives b) = record { count = b .count; start = b .start; handed = rowAnswer (gives (b .count)) }
+decided (refuses r) = record { count = 0; start = 0; handed = rowAnswer (refuses r) }
 
 -- handing the facts out: the answer, and the lent row afterwards
-pub record Hands (rules bundle : List ℕ) (row : List Record) (r : Handed) (row′ : List Record) : Type 0 where
-  pub answer : r ≡ handed (over length (handRecords rules bundle (length row)))
+pub record Hands (rules bundle : List ℕ) (row : List Record) (r : RowAnswer) (row′ : List Record) : Type 0 where
+  pub answer : r ≡ rowAnswer (over length (handRecords rules bundle (length row)))
   pub memory : row′ ≡ rowAfter row (handRecords rules bundle (length row))

@@ -10,10 +10,11 @@ use Rattle.rules.specs.RuleFile.{checkRules}
 use Rattle.rules.specs.declared.head.Head.{Head}
 use Rattle.bundle.specs.Pushed.{startOf, stateAfter, memoryAfter, secondStart, countStored, answerOf}
 use Rattle.bundle.specs.declared.writing.Writing.{Writing}
+use Rattle.records.specs.Told.{rowAnswer}
 use Rattle.records.specs.Rows.{factOf, writeRow}
 use Rattle.records.specs.declared.record.Record.{Record}
 use Rattle.records.specs.declared.write.Opening.{Opening}
-use Rattle.records.specs.declared.write.WroteRow.{WroteRow}
+use Rattle.records.specs.declared.answer.RowAnswer.{RowAnswer}
 
 -- the start by what the rules came to: the first pass over so many records, or no turns
 abbrev pub openedBy : Answer Head → ℕ → ℕ → Opening
@@ -42,16 +43,11 @@ pub record TurnsOver (o : Opening) (out : List ℕ) (first r : Writing) (out′ 
   pub state : r ≡ cond (o .accepted) (secondStart (o .turns) (length out) first) first
   pub memory : out′ ≡ cond (o .accepted) (countStored out (o .turns) first) out
 
--- an answer to the writing: the length, or the refusal's number, side and place
-abbrev pub wroteRow : Answer ℕ → WroteRow
-wroteRow (gives length) = record { number = 0; side = 0; place = 0; length = length }
-wroteRow (refuses r) = record { number = r .number; side = r .side; place = r .place; length = 0 }
-
 -- what the writing comes to: the rules' refusal, or the last pass's answer
-abbrev pub ended : Opening → Writing → WroteRow
-ended o last = cond (o .accepted) (wroteRow (answerOf last)) (wroteRow (refuses (o .refusal)))
+abbrev pub ended : Opening → Writing → RowAnswer
+ended o last = cond (o .accepted) (rowAnswer (answerOf last)) (rowAnswer (refuses (o .refusal)))
 
 -- writing a row: the answer, and the lent memory afterwards
-pub record WritesRow (rules : List ℕ) (row : List Record) (out : List ℕ) (r : WroteRow) (out′ : List ℕ) : Type 0 where
-  pub answer : r ≡ wroteRow (over length (writeRow rules (length out) row))
+pub record WritesRow (rules : List ℕ) (row : List Record) (out : List ℕ) (r : RowAnswer) (out′ : List ℕ) : Type 0 where
+  pub answer : r ≡ rowAnswer (over length (writeRow rules (length out) row))
   pub memory : out′ ≡ laid out 0 (writeRow rules (length out) row)

@@ -3,6 +3,7 @@ ghost use mathlib.Core.Path.{_≡_};
 ghost use Rattle.records.specs.Rows.{handOut, takeAt};
 ghost use Rattle.number.specs.Answer.Answer.{refuses};
 ghost use Rattle.records.specs.Told.{decided, Hands};
+use crate::answer::RowAnswer;
 use crate::record::Record;
 use bundle::BundleRead;
 use bundle::FactRead;
@@ -12,20 +13,11 @@ use number::Refusal;
 use rules::RulesRead;
 use rules::check_rules;
 
-// The answer: how many records were handed out, or the refusal, whose number is not 0.
-#[repr(C)]
-pub struct Handed {
-    pub number: u32,
-    pub side: u32,
-    pub place: usize,
-    pub count: usize,
-}
-
 // What is handed out: so many facts from a place of the bundle, none where there is a refusal.
 pub struct Hand {
     pub count: usize,
     pub start: usize,
-    pub handed: Handed,
+    pub handed: RowAnswer,
 }
 
 // One record of the bundle, and the place after it.
@@ -40,11 +32,11 @@ fn refuse(r: Refusal) -> Hand
     Hand {
         count: 0,
         start: 0,
-        handed: Handed {
+        handed: RowAnswer {
             number: r.number,
             side: r.side,
             place: r.place,
-            count: 0,
+            length: 0,
         },
     }
 }
@@ -69,11 +61,11 @@ pub fn decide(rules: &[u8], bundle: &[u8], room: usize) -> Hand
                 Hand {
                     count,
                     start: facts.start,
-                    handed: Handed {
+                    handed: RowAnswer {
                         number: 0,
                         side: 0,
                         place: 0,
-                        count,
+                        length: count,
                     },
                 }
             }
@@ -102,7 +94,7 @@ pub fn take_at(bundle: &[u8], at: usize) -> Taken
 }
 
 // "The console receives the facts as a lent row of fact records".
-pub fn hand_records(rules: &[u8], bundle: &[u8], row: &mut [Record]) -> Handed
+pub fn hand_records(rules: &[u8], bundle: &[u8], row: &mut [Record]) -> RowAnswer
     ensures { λ r. ⌜ Hands (now (rules .entry)) (now (bundle .entry)) (now (row .entry)) r (now (row .exit)) ⌝ }
 {
     let hand = decide(rules, bundle, row.len());

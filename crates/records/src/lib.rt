@@ -1,12 +1,13 @@
 // Facts as records: a reader that yields them one at a time, a lent row that receives them, and a row that is written as a bundle.
+mod answer;
 mod hand;
 mod reader;
 mod record;
 mod step;
 mod write;
 
+pub use answer::RowAnswer;
 pub use hand::Hand;
-pub use hand::Handed;
 pub use hand::Taken;
 pub use hand::decide;
 pub use hand::hand_records;
@@ -23,7 +24,6 @@ pub use step::Yield;
 pub use step::start;
 pub use step::step_at;
 pub use write::Opening;
-pub use write::WroteRow;
 pub use write::end_row;
 pub use write::open_row;
 pub use write::push_record;

@@ -5,7 +5,9 @@ ghost use lib.ListN.{length, take};
 ghost use Rattle.number.specs.Answer.Answer.{refuses};
 ghost use Rattle.bundle.specs.Pushed.{Pushes, wroteTold};
 ghost use Rattle.records.specs.Rows.{factOf};
-ghost use Rattle.records.specs.Written.{opened, PushesRow, TurnsOver, ended, wroteRow, WritesRow};
+ghost use Rattle.records.specs.Told.{rowAnswer};
+ghost use Rattle.records.specs.Written.{opened, PushesRow, TurnsOver, ended, WritesRow};
+use crate::answer::RowAnswer;
 use crate::record::Record;
 use bundle::BundleWrote;
 use bundle::Writing;
@@ -15,15 +17,6 @@ use number::Refusal;
 use rules::Head;
 use rules::RulesRead;
 use rules::check_rules;
-
-// The answer: the length of the bundle that was written, or the refusal, whose number is not 0.
-#[repr(C)]
-pub struct WroteRow {
-    pub number: u32,
-    pub side: u32,
-    pub place: usize,
-    pub length: usize,
-}
 
 // How a writing starts: the rules' head and the first pass, or the rules' refusal and no turns.
 pub struct Opening {
@@ -97,10 +90,10 @@ pub fn turn_over(out: &mut [u8], opening: Opening, first: Writing) -> Writing
     first
 }
 
-fn refused(r: Refusal) -> WroteRow
-    ensures { λ w. ⌜ w ≡ wroteRow (refuses r) ⌝ }
+fn refused(r: Refusal) -> RowAnswer
+    ensures { λ w. ⌜ w ≡ rowAnswer (refuses r) ⌝ }
 {
-    WroteRow {
+    RowAnswer {
         number: r.number,
         side: r.side,
         place: r.place,
@@ -108,11 +101,11 @@ fn refused(r: Refusal) -> WroteRow
     }
 }
 
-fn wrote(answer: BundleWrote) -> WroteRow
-    ensures { λ r. ⌜ r ≡ wroteRow (wroteTold answer) ⌝ }
+fn wrote(answer: BundleWrote) -> RowAnswer
+    ensures { λ r. ⌜ r ≡ rowAnswer (wroteTold answer) ⌝ }
 {
     match answer {
-        BundleWrote::Written(length) => WroteRow {
+        BundleWrote::Written(length) => RowAnswer {
             number: 0,
             side: 0,
             place: 0,
@@ -123,7 +116,7 @@ fn wrote(answer: BundleWrote) -> WroteRow
 }
 
 // What the writing comes to.
-pub fn end_row(opening: Opening, last: Writing) -> WroteRow
+pub fn end_row(opening: Opening, last: Writing) -> RowAnswer
     ensures { λ r. ⌜ r ≡ ended opening last ⌝ }
 {
     if opening.accepted {
@@ -133,7 +126,7 @@ pub fn end_row(opening: Opening, last: Writing) -> WroteRow
 }
 
 // "and hands such a row back to be written".
-pub fn write_records(rules: &[u8], row: &[Record], out: &mut [u8]) -> WroteRow
+pub fn write_records(rules: &[u8], row: &[Record], out: &mut [u8]) -> RowAnswer
     ensures { λ r. ⌜ WritesRow (now (rules .entry)) (now (row .entry)) (now (out .entry)) r (now (out .exit)) ⌝ }
 {
     let opening = open_row(rules, row.len(), out.len());

@@ -22,8 +22,8 @@ use Rattle.records.proofs.record.Record as Rec
 use Rattle.records.proofs.record.Record.Laws as Rec′
 use Rattle.records.proofs.hand.Hand as Hn
 use Rattle.records.proofs.hand.Hand.Laws as Hn′
-use Rattle.records.proofs.hand.Handed as Hd
-use Rattle.records.proofs.hand.Handed.Laws as Hd′
+use Rattle.records.proofs.answer.RowAnswer as Hd
+use Rattle.records.proofs.answer.RowAnswer.Laws as Hd′
 use Rattle.records.proofs.hand.Taken as Tk
 use Rattle.records.proofs.hand.Taken.Laws as Tk′
 use Rattle.records.proofs.hand.decide as decide

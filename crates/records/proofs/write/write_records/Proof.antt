@@ -20,12 +20,12 @@ use Rattle.bundle.proofs.writing.Writing.Laws as Wr′
 use Rattle.records.specs.Written.{opened, PushesRow, TurnsOver, ended, WritesRow}
 use Rattle.records.specs.declared.record.Record.{Record}
 use Rattle.records.specs.declared.write.Opening.{Opening}
-use Rattle.records.specs.declared.write.WroteRow.{WroteRow}
+use Rattle.records.specs.declared.answer.RowAnswer.{RowAnswer}
 use Rattle.records.proofs.record.Record as Rec
 use Rattle.records.proofs.write.Opening as Op
 use Rattle.records.proofs.write.Opening.Laws as Op′
-use Rattle.records.proofs.write.WroteRow as Wo
-use Rattle.records.proofs.write.WroteRow.Laws as Wo′
+use Rattle.records.proofs.answer.RowAnswer as Wo
+use Rattle.records.proofs.answer.RowAnswer.Laws as Wo′
 use Rattle.records.proofs.write.open_row as open-row
 use Rattle.records.proofs.write.open_row.Symbol as open-row-def
 use Rattle.records.proofs.write.open_row.Symbol.{name as #open-row}
@@ -168,7 +168,7 @@ module _ {M : Type 1} (𝓤 : URA M) (H : Heap 𝓤) (A : Atoms 𝓤) (W : Given
       qed W (‵ ftrue ∷ []) ∵ nothing ! $ owned ! Wr.the-row (Is Wr.the-row) (LL.makes Wr.the-type Wr′.the-plain 𝓤 H A) w _ is-w $ fjoin ! $ owned ! Op.the-row (Is Op.the-row) (LL.makes Op.the-type Op′.the-plain 𝓤 H A) op _ is-op $ fjoin ! $
       move ! (1 ∷ 0 ∷ []) $ join ! $ nothing ! $ move ! (1 ∷ 0 ∷ []) $ frame ! $ done !
 
-  exits : (zs : List ℕ) (r : WroteRow) (u : Val) → length zs ≡ length ys → WritesRow (now s₁) (now s₂) ys r zs
+  exits : (zs : List ℕ) (r : RowAnswer) (u : Val) → length zs ≡ length ys → WritesRow (now s₁) (now s₂) ys r zs
       → ent 𝓤 (⋆ 𝓤 H A (‵ (Wo.the-row .own r (u ∷ [])) ∷ ‵ (MutSlice (named 2) κ₃ u8 .own (x γ zs) (v₃ zs ∷ [])) ∷ ‵ (flft κ₃ q₃) ∷ ‵ (flft κ₂ q₂) ∷ ‵ Own₂ ∷ ‵ (flft κ₁ q₁) ∷ ‵ Own₁ ∷ [])) (Post u)
   exits zs r u same e =
       qed W (‵ (Wo.the-row .own r (u ∷ [])) ∷ ‵ (MutSlice (named 2) κ₃ u8 .own (x γ zs) (v₃ zs ∷ [])) ∷ ‵ (flft κ₃ q₃) ∷ ‵ (flft κ₂ q₂) ∷ ‵ Own₂ ∷ ‵ (flft κ₁ q₁) ∷ ‵ Own₁ ∷ []) ∵
@@ -187,7 +187,7 @@ module _ {M : Type 1} (𝓤 : URA M) (H : Heap 𝓤) (A : Atoms 𝓤) (W : Given
   opening-is r u is = subst (λ (z : List Val). Is Op.the-row r z) (LL.tells Op.the-type Op′.the-laws r _ is) is
 
   -- what the callees said, put together
-  written : (r : WroteRow) (op : Opening) (w₁ w₂ w₃ : Writing) (out₁ out₂ out₃ : List ℕ) → op ≡ opened (now s₁) (length (now s₂)) (length ys) → r ≡ ended op w₃ → length out₁ ≡ length ys → length out₂ ≡ length ys
+  written : (r : RowAnswer) (op : Opening) (w₁ w₂ w₃ : Writing) (out₁ out₂ out₃ : List ℕ) → op ≡ opened (now s₁) (length (now s₂)) (length ys) → r ≡ ended op w₃ → length out₁ ≡ length ys → length out₂ ≡ length ys
       → PushesRow (op .head) (take (op .turns) (now s₂)) ys (op .first) w₁ out₁ → TurnsOver op out₁ w₁ w₂ out₂ → PushesRow (op .head) (take (op .turns) (now s₂)) out₂ w₂ w₃ out₃
       → WritesRow (now s₁) (now s₂) ys r out₃
   written r op w₁ w₂ w₃ out₁ out₂ out₃ is is-r long₁ long₂ p t q = rw is-r (writes (now s₁) (now s₂) ys w₁ w₂ w₃ out₁ out₂ out₃ long₁ long₂ op is p t q)
@@ -250,7 +250,7 @@ module _ {M : Type 1} (𝓤 : URA M) (H : Heap 𝓤) (A : Atoms 𝓤) (W : Given
         rewrite ! 0 (λ (m : ℕ). ‵ (MutSlice (named 2) κ₃ u8 .own (x γ zsw₃) (sliceVal (b, o) m ∷ []))) (sym samew₃) refl $
         -- `end_row`
         nothing ! $ use1 W (raw (EndRow 𝓤 H A mem run .pre (to-end op w₃))) (goes-end op w₃ (opening-is op u is-op′) (state-is w₃ uw₃ is-w₃)) $
-        calls-to ! (fmOf 𝓤 H (W .laws) 𝓣) end-row.ended (end-row.clauses 𝓤 H A mem run) known-end (to-end op w₃) (λ (r : WroteRow). r ≡ ended op w₃) (λ r ws. id⊢ 𝓤 _) (and-then ! (load ! (from ! (stop !)) (look ! 33 refl)) (and-then ! (load ! (from ! (stop !)) (look ! 23 refl)) (no-more !))) (λ u′ r e′.
+        calls-to ! (fmOf 𝓤 H (W .laws) 𝓣) end-row.ended (end-row.clauses 𝓤 H A mem run) known-end (to-end op w₃) (λ (r : RowAnswer). r ≡ ended op w₃) (λ r ws. id⊢ 𝓤 _) (and-then ! (load ! (from ! (stop !)) (look ! 33 refl)) (and-then ! (load ! (from ! (stop !)) (look ! 23 refl)) (no-more !))) (λ u′ r e′.
         peeks ! Wo.the-row (Is Wo.the-row) (shows 𝓤 H A Wo.the-row) r (u′ ∷ []) (λ is-r. land ! (from ! (stop !)) (init ! 42 refl (LL.lawful Wo.the-type Wo′.the-laws 𝓤 H A W .typed r _ is-r .0)) $
         returns ! (look ! 42 refl) $ forget ! 8 refl $ forget ! 10 refl $ forget ! 12 refl $ forget ! 14 refl $ forget ! 16 refl $ forget ! 18 refl $ forget ! 20 refl $ forget ! 22 refl $ forget ! 24 refl $ forget ! 26 refl $ forget ! 28 refl $ forget ! 30 refl $ forget ! 32 refl $ forget ! 34 refl $ forget ! 36 refl $ forget ! 38 refl $ forget ! 40 refl $ forget ! 42 refl $
         move ! (42 ∷ 43 ∷ []) $ free1 ! $ move ! (40 ∷ 41 ∷ []) $ free1 ! $ move ! (38 ∷ 39 ∷ []) $ free1 ! $ move ! (36 ∷ 37 ∷ []) $ free1 ! $ move ! (34 ∷ 35 ∷ []) $ free1 ! $ move ! (32 ∷ 33 ∷ []) $ free1 ! $ move ! (30 ∷ 31 ∷ []) $ free1 ! $ move ! (28 ∷ 29 ∷ []) $ free1 ! $ move ! (26 ∷ 27 ∷ []) $ free1 ! $ move ! (24 ∷ 25 ∷ []) $ free1 ! $ move ! (22 ∷ 23 ∷ []) $ free1 ! $ move ! (20 ∷ 21 ∷ []) $ free1 ! $ move ! (18 ∷ 19 ∷ []) $ free1 ! $ move ! (16 ∷ 17 ∷ []) $ free1 ! $ move ! (14 ∷ 15 ∷ []) $ free1 ! $ move ! (12 ∷ 13 ∷ []) $ free1 ! $ move ! (10 ∷ 11 ∷ []) $ free1 ! $ move ! (8 ∷ 9 ∷ []) $ free1 ! $ free0 ! $
