@@ -1,5 +1,6 @@
 #!/usr/bin/env python3
-"""Holds docs/TRACE.md to the repository; fails at a name that no longer exists and at a sentence that nothing holds.
+"""Holds docs/TRACE.md, or the page that is named, to the repository; fails at a name that no longer exists and at a
+sentence that nothing holds.
 
 A sentence is a quoted line, `> ..`. The lines after it, up to the next quote or heading, say what holds it:
 
@@ -40,6 +41,11 @@ def declares(text, name):
     return any(re.search(p, text) for p in (antt, several, rattle))
 
 
+def stands(text, name):
+    """The name as a word of its own, or the words as they are."""
+    return re.search(rf"(?<!\w){re.escape(name)}(?!\w)", text) is not None
+
+
 def check_names(line, kind, names, path):
     under = ROOT / "crates" if kind in ("definition", "theorem", "code") else ROOT
     text = text_of(under / path)
@@ -47,7 +53,7 @@ def check_names(line, kind, names, path):
         fault(line, f"no file {path}")
         return
     for name in names:
-        held = declares(text, name) if kind in ("definition", "theorem", "code") else name in text
+        held = declares(text, name) if kind in ("definition", "theorem", "code") else stands(text, name)
         if not held:
             fault(line, f"no {kind} {name} in {path}")
 
@@ -81,8 +87,7 @@ def blocks(lines):
     here = None
     for number, line in enumerate(lines, 1):
         if line.startswith("> ") or line.startswith("### "):
-            if here and here[1].startswith("> ") and not here[2] and line.startswith("> "):
-                here = (here[0], here[1] + " " + line[2:], here[2])
+            if line.startswith("> ") and lines[number - 2].startswith("> "):
                 continue
             if here:
                 yield here
@@ -125,7 +130,8 @@ def check_exceptions():
 def main():
     check_exceptions()
     edits, operations, sentences = set(), {}, 0
-    lines = (ROOT / "docs/TRACE.md").read_text(encoding="utf-8").split("\n")
+    page = pathlib.Path(sys.argv[1]) if len(sys.argv) > 1 else ROOT / "docs/TRACE.md"
+    lines = page.read_text(encoding="utf-8").split("\n")
     for number, head, items in blocks(lines):
         kinds = [check_item(line, item, edits) for line, item in items]
         if head.startswith("### "):
