@@ -4,7 +4,10 @@ sentence that nothing holds.
 
 A sentence is a quoted line, `> ..`. The lines after it, up to the next quote or heading, say what holds it:
 
-    definition `name` `name` (number/specs/Number.antt); theorem `name` (..); wrong version `number/second_byte`; test `name` (tests/..)
+    - definition `name` `name` (number/specs/Number.antt)
+    - theorem `name` (..)
+    - wrong version `number/second_byte`
+    - test `name` (tests/..)
 
 The names before a path in brackets are declared there (definition, theorem, code: a path under crates/) or stand there
 (test, document: a path under the root). A wrong version is CRATE/EDIT of crates/CRATE/must-fail/EDIT.edit.
@@ -96,12 +99,11 @@ def blocks(lines):
             if here:
                 yield here
             here = None
-        elif line.removeprefix("- ").startswith(KINDS):
-            items = [(number, item.strip()) for item in line.removeprefix("- ").rstrip(".").split("; ")]
+        elif line.startswith("- "):
             if here:
-                here[2].extend(items)
+                here[2].append((number, line[2:]))
             else:
-                yield number, "", items
+                yield number, "", [(number, line[2:])]
     if here:
         yield here
 

@@ -24,7 +24,7 @@ refused "a theorem that is gone" '0,/`demand-3`/s//`demand-4`/'
 refused "a wrong version that is gone" '0,/`number\/long_form`/s//`number\/longer_form`/'
 refused "a test that is gone" '0,/`worked_marks`/s//`worked_mark`/'
 refused "a file that is gone" '0,/\(site\/specs\/Items.antt\)/s//(site\/specs\/Item.antt)/'
-refused "a sentence that nothing holds" '/^theorem .cases-hold. \(listing/d'
+refused "a sentence that nothing holds" '/^- theorem .demand-3. \(worlds.proofs.Demand.antt\)$/d'
 refused "an operation that is left out" '/^### dzy_ask/d'
 tests/trace.py docs/TRACE.md >/dev/null || bad=1
 exit "$bad"
