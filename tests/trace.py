@@ -11,8 +11,8 @@ A sentence is a quoted line, `> ..`. The lines after it, up to the next quote or
 
 The names before a path in brackets are declared there (definition, theorem, code: a path under crates/) or stand there
 (test, document: a path under the root). A wrong version is CRATE/EDIT of crates/CRATE/must-fail/EDIT.edit.
-Every public operation has a heading `### dzy_..` with its promise, the theorem that it leaves one answer, and two wrong
-versions or answers at least; every wrong version of the repository stands somewhere. docs/EXCEPTIONS.md lists every
+Every public operation has a heading `### dzy_..` with its promise, the theorem that it leaves one answer, and three
+wrong versions or answers at least; every wrong version of the repository stands somewhere. docs/EXCEPTIONS.md lists every
 public function with a `requires`.
 """
 import pathlib
