@@ -5,6 +5,7 @@ An antt text is read by its indentation. At the left edge of a file, a section, 
 stands `name :`, `name other :`, or `record`, `data` or `ruleset` and a name: these declare. What is deeper, and the clauses
 that follow, belongs to the declaration above; so a bound variable, as `at` in `f : (at : ℕ) → ..`, is none.
 """
+import functools
 import re
 from typing import NamedTuple
 
@@ -79,11 +80,12 @@ def scan(text):
     return declared, inside
 
 
-def declares(text, name, rattle):
-    """Whether an antt text, or one of Rattle, declares the name for others to see."""
+@functools.lru_cache(maxsize=None)
+def names_of(text, rattle):
+    """What an antt text, or one of Rattle, declares for others to see."""
     if rattle:
-        return name in RATTLE.findall(without_comments(text))
-    return any(d.name == name and d.kind != "local" for d in scan(text)[0])
+        return frozenset(RATTLE.findall(without_comments(text)))
+    return frozenset(d.name for d in scan(text)[0] if d.kind != "local")
 
 
 def brought(text):
