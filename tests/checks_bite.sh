@@ -2,6 +2,7 @@
 # The house's checks notice what they must. Each fault is made in a copy, of the trace's page or of the sources, and the check must tell it:
 # names that are gone and sentences that are wrong (trace.py), dead lemmas (dead_lemmas.py), uncalled functions and unused constants
 # (uncalled.py), holes and axioms (plain.sh).
+# shellcheck disable=SC2016
 set -u
 cd "$(dirname "$0")/.." || exit 2
 work=$(mktemp -d)
@@ -56,11 +57,12 @@ told() {
   cp "$work/before" "$work/copy/$file"
 }
 
-# `refl` and `mark-of` are names that other crates use; `step-aside` is used by nothing but itself and its follower
+# `mark-of`, `MOST`, `new` and `push` are names that others use; `step-aside` is used by itself and by what nothing uses
 told dead_lemmas.py crates/number/proofs/Laws.antt '\npub mark-of : ℕ → ℕ\nmark-of n = n\n' ': nothing uses mark-of'
 told dead_lemmas.py crates/site/proofs/Order.antt '\nstep-aside : ℕ → ℕ\nstep-aside n = step-aside n\n\nfollows-it : ℕ → ℕ\nfollows-it n = step-aside n\n' ': nothing uses step-aside'
 told dead_lemmas.py crates/site/specs/Kinds.antt '\npub record Pair : Type 0 where\n  pub nowhere-asked : ℕ\n' ': nothing uses nowhere-asked'
-told uncalled.py crates/site/src/nodes.rt '\nimpl Role {\n    pub fn fact(self) -> u32 {\n        Concept::halve(2)\n    }\n\n    pub const LAST: u32 = 31;\n}\n' ': nothing uses Role::LAST'
+told uncalled.py crates/site/src/nodes.rt '\nimpl Role {\n    pub const MOST: u32 = 32;\n}\n' ': nothing uses Role::MOST'
+told uncalled.py crates/site/src/nodes.rt '\nimpl Declared {\n    pub fn new(roles: u32) -> Self {\n        Self { concepts: 0, roles }\n    }\n}\n' ': nothing calls Declared::new'
 told uncalled.py crates/site/src/nodes.rt '\nimpl Concept {\n    pub fn halve(x: u32) -> u32 {\n        if x < 2 {\n            return x;\n        }\n        Concept::halve(x / 2)\n    }\n}\n' ': nothing calls Concept::halve'
 told uncalled.py crates/rules/src/read.rt '\nfn push(x: u32) -> u32 {\n    x\n}\n' ': nothing calls push'
 told uncalled.py crates/rules/src/read.rt '\nconst ROOM: u32 = 1;\n' ': nothing uses ROOM'

@@ -5,8 +5,8 @@
 
 A name is the module's that declares it: a lemma of one crate is not used because another crate has one of that name. What
 the contracts of the code say, what the checker asks of a function's own proof file (`..-spec`), and what docs/TRACE.md or
-docs/PROMISES.md names, with its file where the page gives one, is alive; so is what something alive uses, in its own file or
-where a file brings it in. A field is used by its projection or in a record's text anywhere, since only a type would tell
+docs/PROMISES.md names together with its file, is alive; so is what something alive uses, in its own file or where a file
+brings it in. A field is used by its projection or in a record's text anywhere, since only a type would tell
 whose field it is. Bringing a name in is no use of it.
 """
 import pathlib
@@ -125,29 +125,27 @@ def uses(files):
     return found
 
 
-def named(files):
-    """What the documents name: pairs of a file, or nothing, and a name."""
+def named():
+    """What the documents name: pairs of a file and a name."""
     trace = (ROOT / "docs/TRACE.md").read_text(encoding="utf-8")
     for line in re.findall(r"(?m)^- (?:definition|theorem|code) (.*)", trace):
         for names, path in re.findall(r"((?:`[^`]+` )+)\(([^)\s]+)\)", line):
             yield from ((ROOT / "crates" / path, name) for name in re.findall(r"`([^`]+)`", names))
     promises = (ROOT / "docs/PROMISES.md").read_text(encoding="utf-8")
-    tied = re.compile(r"((?:`[^`/]+`(?:,| and)? )+)in `(crates/[^`]+\.antt)`")
-    for names, path in tied.findall(promises):
+    for names, path in re.findall(r"((?:`[^`/]+`(?:,| and)? )+)in `(crates/[^`]+\.antt)`", promises):
         yield from ((ROOT / path, name) for name in re.findall(r"`([^`]+)`", names))
-    yield from ((None, name) for name in re.findall(r"`([^`/]+)`", tied.sub("", promises)))
 
 
 def main():
     paths = [p for p in sorted(ROOT.glob("crates/*/*/**/*")) if p.suffix in (".rt", ".antt")]
     files = {path: File(path) for path in paths}
     found = uses(files)
-    told = set(named(files))
+    told = set(named())
     alive, fresh = set(), set(found.get(OUTSIDE, ()))
     for file in files.values():
         for number, declared in enumerate(file.declared):
             asked = file.path.name == "Proof.antt" and ASKED.search(declared.name)
-            if asked or (file.path, declared.name) in told or (None, declared.name) in told:
+            if asked or (file.path, declared.name) in told:
                 fresh.add((file, number))
     while fresh:
         alive |= fresh
