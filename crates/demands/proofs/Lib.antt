@@ -1,4 +1,5 @@
 pub mod Demands
+pub mod Face
 pub mod FirstDemand
 pub mod ReaderYields
 pub mod SecondDemand
