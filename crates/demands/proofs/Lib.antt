@@ -1,6 +1,10 @@
+pub mod AsDocument01
+pub mod BySteps
+pub mod Computed
 pub mod Demands
+pub mod Face
 pub mod FirstDemand
 pub mod ReaderYields
-pub mod SecondDemand
+pub mod RoundTrips
 pub mod ThirdDemand
 pub mod Written

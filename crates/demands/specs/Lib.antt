@@ -1,1 +1,3 @@
 pub mod Demands
+pub mod Face
+pub mod Said

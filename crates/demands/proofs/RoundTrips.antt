@@ -1,6 +1,6 @@
--- Demand 2: both round trips, the same through rows of records, and that the marks add up.
-use Prim.Native.Nat.{ℕ, _+_, _≤_}
-use mathlib.Core.Path.{_≡_, refl, sym, ap, subst, _∙_}
+-- Demand 2, one bundle for each list: both round trips, and the same through rows of records.
+use Prim.Native.Nat.{ℕ, _≤_}
+use mathlib.Core.Path.{_≡_, sym, ap, subst, _∙_}
 use mathlib.Core.Bool.{cond}
 use mathlib.Core.List.{List, _++_, map}
 use lib.Dec.{leb}
@@ -12,23 +12,18 @@ use Rattle.number.specs.Answer.Answer.{gives, refuses}
 use Rattle.number.proofs.Answers.{went, passed, given-once}
 use Rattle.number.proofs.Laws.{Bytes}
 use Rattle.rules.specs.RuleFile.{checkRules}
-use Rattle.bundle.specs.Bundle.{readBundle, bundleOf}
+use Rattle.bundle.specs.Bundle.{bundleOf}
 use Rattle.bundle.specs.Bundle.Last.{none}
 use Rattle.bundle.specs.Records.{roomFor, recordsFrom, planRecords}
 use Rattle.bundle.proofs.RoundTrips.{written-read, read-again}
 use Rattle.records.specs.Rows.{factOf, handRecords, rowAfter, writeRow}
 use Rattle.records.specs.declared.record.Record.{Record}
 use Rattle.records.proofs.OfRows.{out-and-back, in-and-out}
-use Rattle.clean.specs.Types.{itself}
-use Rattle.clean.specs.Operations.{given, counting}
-use Rattle.clean.specs.declared.answers.Counts.{Counts}
-use Rattle.clean.proofs.OfMarks.{marks-add-up}
-use Rattle.dzyunagor.specs.Promises.{Count, Records, WriteRecords}
-use Rattle.dzyunagor.specs.Shown.{shownCounts, shownLength}
-use Rattle.dzyunagor.specs.declared.shapes.DzyCounts.{DzyCounts}
+use Rattle.dzyunagor.specs.Promises.{Records, WriteRecords}
+use Rattle.dzyunagor.specs.Shown.{shownLength}
 use Rattle.dzyunagor.specs.declared.shapes.DzyLength.{DzyLength}
 use Rattle.dzyunagor.proofs.NeverZero.{records-tells, write-records-tells}
-use Rattle.demands.specs.Demands.{RoundTrips}
+use Rattle.demands.specs.Demands.{Done, RoundTrips}
 use Rattle.demands.proofs.Written.{take-front, laid-front, laid-taken}
 
 -- records handed out: the row's front, and the answer's length
@@ -43,15 +38,15 @@ roomy : (room : ℕ) (bundle : List ℕ) → length bundle ≤ room → roomFor 
 unfolding roomFor
 roomy room bundle fits = rw (le-leb (length bundle) room fits)
 
-records-back : (rules bundle : List ℕ) → Bytes bundle → (row row′ : List Record) (r : DzyLength) → Records rules bundle row r row′ → r .refused .number ≡ 0
+records-back : (rules bundle : List ℕ) → Bytes bundle → (row row′ : List Record) (r : DzyLength) → Records rules bundle row r row′ → Done (r .refused)
     → (out out′ : List ℕ) (w : DzyLength) → WriteRecords rules (take (r .length) row′) out w out′ → length bundle ≤ length out
-    → out′ ≡ bundle ++ drop (length bundle) out
-records-back rules bundle bytes row row′ r p plain out out′ w q fits =
-    let g = records-tells rules bundle row row′ r p .given plain in
+    → (w ≡ shownLength (gives (length bundle))) × (out′ ≡ laid out 0 (gives bundle))
+records-back rules bundle bytes row row′ r p done out out′ w q fits =
+    let g = records-tells rules bundle row row′ r p .given done in
     let same : take (r .length) row′ ≡ g .value = handed-front row row′ (g .value) r (handRecords rules bundle (length row)) (g .is) (p .memory) (p .answer) in
     let written : writeRow rules (length out) (take (r .length) row′) ≡ gives bundle =
     ap (writeRow rules (length out)) same ∙ out-and-back rules bundle (length row) (g .value) bytes (g .is) (length out) ∙ roomy (length out) bundle fits in
-    q .memory ∙ ap (laid out 0) written ∙ laid-front out bundle fits
+    (q .answer ∙ ap (λ (b : Answer (List ℕ)). shownLength (over length b)) written, q .memory ∙ ap (laid out 0) written)
 
 -- what was written fitted its output
 fitted : (rules : List ℕ) (row : List Record) (room : ℕ) (bytes : List ℕ) → writeRow rules room row ≡ gives bytes → length bytes ≤ room
@@ -63,34 +58,18 @@ fitted rules row room bytes e =
     let t = passed (leb (length (bundleOf facts)) room) (gives (bundleOf facts)) (refusal 9 2 0) (v .rest) in
     subst (λ (l : List ℕ). length l ≤ room) (given-once (t .answer)) (leb-true (length (bundleOf facts)) room (t .test))
 
-rows-back : (rules : List ℕ) (row : List Record) (out out′ : List ℕ) (w : DzyLength) → WriteRecords rules row out w out′ → w .refused .number ≡ 0
+rows-back : (rules : List ℕ) (row : List Record) (out out′ : List ℕ) (w : DzyLength) → WriteRecords rules row out w out′ → Done (w .refused)
     → (lent lent′ : List Record) (r : DzyLength) → Records rules (take (w .length) out′) lent r lent′ → length row ≤ length lent
-    → lent′ ≡ row ++ drop (length row) lent
-rows-back rules row out out′ w p plain lent lent′ r q fits =
-    let g = write-records-tells rules row out out′ w p .given plain in
+    → (r ≡ shownLength (gives (length row))) × (lent′ ≡ laid lent 0 (gives row))
+rows-back rules row out out′ w p done lent lent′ r q fits =
+    let g = write-records-tells rules row out out′ w p .given done in
     let long : w .length ≡ length (g .value) = ap (λ (l : DzyLength). l .length) (p .answer ∙ ap (λ (b : Answer (List ℕ)). shownLength (over length b)) (g .is)) in
     let front : take (w .length) out′ ≡ g .value =
     ap (λ (n : ℕ). take n out′) long ∙ ap (take (length (g .value))) (p .memory ∙ ap (laid out 0) (g .is)) ∙ laid-taken out (g .value) (fitted rules row (length out) (g .value) (g .is)) in
-    q .memory ∙ ap (λ (l : List ℕ). rowAfter lent (handRecords rules l (length lent))) front
-    ∙ ap (rowAfter lent) (in-and-out rules (g .value) (length out) row (g .is) (length lent) fits)
-
--- the counts of an answer that is given, and the zeros of a refusal
-shown-sum : (a : Answer Counts) → ((c : Counts) → a ≡ gives c → c .facts ≡ c .kept + c .alone + c .disputed)
-    → shownCounts a .facts ≡ shownCounts a .kept + shownCounts a .alone + shownCounts a .disputed
-shown-sum (gives c) sums = sums c refl
-shown-sum (refuses r) sums = refl
-
-given-sum : (rules bundle : List ℕ) (c : Counts) → counting rules bundle ≡ gives c → c .facts ≡ c .kept + c .alone + c .disputed
-unfolding counting given
-given-sum rules bundle c e =
-    let w = went (checkRules rules) _ e in
-    let v = went (readBundle (w .value) bundle) _ (w .rest) in
-    rw (sym (given-once (v .rest))) (marks-add-up itself _ (v .value))
-
-sums : (rules bundle : List ℕ) (r : DzyCounts) → Count rules bundle r → r .facts ≡ r .kept + r .alone + r .disputed
-unfolding Count
-sums rules bundle r p = rw p (shown-sum (counting rules bundle) (given-sum rules bundle))
+    let handed : handRecords rules (take (w .length) out′) (length lent) ≡ gives row =
+    ap (λ (l : List ℕ). handRecords rules l (length lent)) front ∙ in-and-out rules (g .value) (length out) row (g .is) (length lent) fits in
+    (q .answer ∙ ap (λ (b : Answer (List Record)). shownLength (over length b)) handed, q .memory ∙ ap (rowAfter lent) handed ∙ sym (laid-front lent row fits))
 
 pub round-trips : RoundTrips
 round-trips =
-    record { written-read = written-read; read-written = λ s bytes h facts e. sym (read-again s bytes h facts e); records-back = records-back; rows-back = rows-back; marks-add-up = sums }
+    record { written-read = written-read; read-written = λ s bytes h facts e. sym (read-again s bytes h facts e); records-back = records-back; rows-back = rows-back }

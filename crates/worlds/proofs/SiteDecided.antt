@@ -20,7 +20,7 @@ use Rattle.follows.specs.Decides.{Decides}
 use Rattle.clean.specs.Types.{itself, typ}
 use Rattle.clean.specs.Marks.{mark, partner, kept, support}
 use Rattle.worlds.specs.Worlds.{Is, Joins, Consistent, LeftOut, LowestConflict, Always}
-use Rattle.worlds.specs.Demand3.{WorldsDecide}
+use Rattle.worlds.specs.Demand3.{SiteDecided}
 use Rattle.worlds.proofs.Conflicts.{alone-worldless, partner-conflict}
 use Rattle.worlds.proofs.Consistency.{Fit, AllFit}
 use Rattle.worlds.proofs.Dropped.{dropped-left-out, kept-consistent}
@@ -63,9 +63,9 @@ facts-fit h s c r done f m = elim m [ ]
 facts-fit h s c r (next l a ls) f (List·Memᴰ·head e) = subst (λ (g : Fact). Fit s g) (sym e) (fact-fit h s c r l)
 facts-fit h s c r (next l a ls) f (List·Memᴰ·tail m) = facts-fit h s c r ls f m
 
-pub worlds-decide : (h : Head) (s : Site) (facts : List Fact) → h .concepts ≡ s .concepts → h .roles ≡ s .roles → Lawful s
-    → Decides s (followsOf s) → LawfulFacts h facts → WorldsDecide h s facts
-worlds-decide h s facts c r law d l =
+pub site-decided : (h : Head) (s : Site) (facts : List Fact) → h .concepts ≡ s .concepts → h .roles ≡ s .roles → Lawful s
+    → Decides s (followsOf s) → LawfulFacts h facts → SiteDecided h s facts
+site-decided h s facts c r law d l =
     let k = decided-over itself s (followsOf s) facts law d (facts-fit h s c r (l .lawful)) in
     record {
       dropped = k .dropped;
