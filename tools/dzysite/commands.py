@@ -3,6 +3,7 @@ import argparse
 import os
 import sys
 
+from .clean import clean
 from .folder import contents, load_folder, read_file, write_folder
 from .kinds import MEANINGS, Fault, Faults, Refused
 from .lines import text_of
@@ -37,7 +38,7 @@ def show(args):
 
 def listing(args):
     if sys.stdin.isatty():
-        print("note: the cleaner's output is read from standard input", file=sys.stderr)
+        print("note: the cleaner's output is read from standard input; 'site clean' runs the cleaner itself", file=sys.stderr)
     output = text_of(sys.stdin.buffer.read(), "output")
     refused = read_refusal(output)
     if refused:
@@ -49,9 +50,20 @@ def listing(args):
         raise Faults([f"output: {fault}"]) from None
 
 
+def fact_number(word):
+    if not word.isdigit():
+        raise argparse.ArgumentTypeError(f"expected a fact's number, as the listing has it, found '{word}'")
+    return int(word)
+
+
 def arguments():
-    parser = argparse.ArgumentParser(prog="site", description="the text of a site: judged, made into the cleaner's files, and back")
+    parser = argparse.ArgumentParser(prog="site", description="the text of a site: cleaned in one go, judged, made into the cleaner's files, and back")
     commands = parser.add_subparsers(dest="command", required=True, metavar="COMMAND")
+    one = commands.add_parser("clean", help="run the cleaner on texts or folders, print the listing with names")
+    one.add_argument("sites", metavar="SITE", nargs="+", help="a text, or a folder with rules.bin and bundle.bin")
+    one.add_argument("--explain", metavar="N", type=fact_number, help="say why fact N is dropped; for one site")
+    one.add_argument("--listing", action="store_true", help="with several sites, print each listing too")
+    one.add_argument("--program", metavar="PATH", help="the cleaner; else the one built beside the tool, else the one on the PATH")
     one = commands.add_parser("check", help="judge a text, write nothing")
     one.add_argument("file", metavar="FILE")
     one.set_defaults(run=check)
@@ -81,6 +93,8 @@ def tell(error):
 
 def run(args):
     """Runs a command: its exit status."""
+    if args.command == "clean":
+        return clean(args, tell)
     try:
         args.run(args)
     except BrokenPipeError:
@@ -92,7 +106,10 @@ def run(args):
 
 
 def main():
-    args = arguments().parse_args()
+    parser = arguments()
+    args = parser.parse_args()
+    if args.command == "clean" and args.explain is not None and len(args.sites) > 1:
+        parser.error("--explain N is for one site")
     try:
         status = run(args)
         sys.stdout.flush()
