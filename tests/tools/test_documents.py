@@ -7,7 +7,7 @@ import unittest
 sys.dont_write_bytecode = True
 sys.path.insert(0, os.path.dirname(os.path.abspath(__file__)))
 import model
-from common import F, LISTING, R, document, file_of, new_folder, run
+from common import F, LISTING, R, document, file_of, new_folder, put, run
 from dzysite.files import number_at, number_bytes, write_rules
 from dzysite.kinds import Faults, MOST_FACTS, MOST_NUMBER, Refused, Site
 from dzysite.text import read_text
@@ -18,6 +18,18 @@ def rows(text, heading):
     part = text.split(heading, 1)[1]
     table = re.search(r"\n(\|.*?\n)(?!\|)", part, re.S).group(1)
     return [[cell.strip().replace("`", "") for cell in line.strip().strip("|").split("|")] for line in table.strip().split("\n")[2:]]
+
+
+EMPTY_ROLE = """concept Switch
+concept Camera
+role uplink
+disjoint Switch Camera
+Camera < some uplink
+some uplink- < Switch
+some uplink- < Camera
+Switch 7
+Camera 7
+"""
 
 
 def hex_of(cell):
@@ -142,12 +154,33 @@ class Documents(unittest.TestCase):
                 told = faults.messages
             self.assertEqual(told, [f"site.txt:{line}: {message}"])
 
-    def test_runs_of_the_text_document(self):
+    def test_building_by_hand(self):
         folder = new_folder(self)
         text = document("TEXT.md")
         _, printed, _ = run("build", "examples/worked-site/site.txt", "-o", folder)
         self.assertIn(printed.replace(folder, "site"), text)
         self.assertIn(run("listing", folder, stdin=LISTING.encode())[1], text)
+
+    def test_runs_of_clean(self):
+        """Each `$ tools/site clean ..` of README, TEXT.md and the man page prints what stands below it; `..` stands for lines left out."""
+        pages = [file_of(model.ROOT, "README.md").decode(), document("TEXT.md"), file_of(os.path.join(model.ROOT, "man"), "site.1").decode()]
+        runs = 0
+        for page in pages:
+            for words, shown in re.findall(r"^\$ tools/site (clean .*)\n((?:(?!```|\.fi|\$).*\n)+)", page.replace("\\-", "-"), re.M):
+                status, printed, errors = run(*words.split())
+                self.assertEqual((status, errors), (1, ""))
+                first, *last = shown.split("..\n") if "\n..\n" in shown else [shown]
+                self.assertTrue(printed.startswith(first) and printed.endswith("".join(last)), words)
+                if not last:
+                    self.assertEqual(printed, shown)
+                runs += 1
+        self.assertEqual(runs, 7)
+
+    def test_chain_of_the_empty_role(self):
+        """The chain in TEXT.md without a run above it is of document 01's empty role."""
+        chain = re.search(r"```\n(1 Camera 7: alone\n.*?)```", document("TEXT.md"), re.S)[1]
+        path = put(new_folder(self), "site.txt", EMPTY_ROLE)
+        self.assertEqual(run("clean", path, "--explain", "1"), (1, chain, ""))
 
     def test_examples_of_the_api(self):
         text = document("API.md")
