@@ -1,6 +1,6 @@
 """The command clean --explain: chains written by hand, and random sites where each chain is checked and agrees with the program.
 
-SITES=20000 python3 tests/tools/test_explain.py tries more of them."""
+RUNS=5000 python3 tests/tools/test_explain.py tries more of them."""
 import os
 import random
 import subprocess
@@ -18,10 +18,13 @@ from dzysite.folder import site_of
 from dzysite.kinds import Fault, Site
 from dzysite.listing import read_listing
 from dzysite.program import RUNNER, find_program
+from dzysite.reasons import Judge
 from dzysite.text import Reading
 from dzysite.words import write_text
 
-SITES = int(os.environ.get("SITES", "1500"))
+# Runs of the program on random rules; the facts of a run are those of several sites, which share no thing.
+RUNS = int(os.environ.get("RUNS", "600"))
+YARDS = 4
 
 
 class Written(unittest.TestCase):
@@ -222,8 +225,8 @@ class Examples(unittest.TestCase):
         self.assertEqual(run("clean", path, path, "--explain", "0")[:2], (2, ""))
 
 
-def disputing_site(rng):
-    """A random site with few codes and things, so that facts often meet; some with many rules, some with few."""
+def disputing_site(rng, yards=1):
+    """A random site with few codes and things, so that facts often meet; some with many rules, some with few. Yards share no thing."""
     concepts, roles = rng.randint(1, 5), rng.randint(0, 3)
     basics = list(range(concepts)) + [64 + q for q in range(2 * roles)]
     kinds = [0, 0, 0, 1, 1] + [2, 3, 4] * (roles > 0)
@@ -232,17 +235,21 @@ def disputing_site(rng):
         kind = rng.choice(kinds)
         row = basics if kind < 2 else list(range(2 * roles))
         rules.append((kind,) + tuple(rng.choice(row) for _ in range(1 if kind == 4 else 2)))
+    if roles > 1 and rng.random() < 0.2:  # each role's other end demands the next role, and the last is empty
+        rules += [(0, 0, 64)] + [(0, 65 + 2 * j, 66 + 2 * j) for j in range(roles - 1)] + [rng.choice(((1, 63 + 2 * roles, 63 + 2 * roles), (3, 2 * roles - 2, 2 * roles - 2)))]
     rules = [rule for rule in rules if rule[0] != 4 or not any(r[0] == 2 and r[2] // 2 == rule[1] // 2 for r in rules)]
     predicates = list(range(concepts)) + [64 + j for j in range(roles)]
     facts = set()
-    for _ in range(rng.randint(1, 8)):
-        predicate = rng.choice(predicates)
-        facts.add((predicate, rng.randint(0, 2), rng.randint(0, 2) if predicate >= 64 else 0))
+    for yard in range(yards):
+        thing = lambda first=10 * yard: first + rng.randint(0, 2)
+        for _ in range(rng.randint(1, 8)):
+            predicate = rng.choice(predicates)
+            facts.add((predicate, thing(), thing() if predicate >= 64 else 0))
     return Site([""] * concepts, [""] * roles, {}, rules, sorted(facts))
 
 
 def disputing_files(rng):
-    site = disputing_site(rng)
+    site = disputing_site(rng, YARDS)
     return write_rules(site), write_bundle(site), "thing 1 one\n"
 
 
@@ -262,28 +269,34 @@ class Random(unittest.TestCase):
         rng, folder = random.Random(SEED + 50), new_folder(self)
         seen = {"kept": 0, "alone": 0, "disputed": 0}
         emptied = deepest = 0
-        for k in range(SITES):
+        for k in range(RUNS):
             rules, bundle, names = random_site(rng, small=True) if k % 5 == 0 else disputing_files(rng)
             site = site_of(rules, bundle, names)
             judged = read_listing(site, self.program(folder, rules, bundle))
-            text = write_text(site)
-            reading = Reading("t")
-            reading.read(text)
-            for quotes, own in ((quotes_of_text(reading), chain.site_of_text(text)), (quotes_of_files(site), chain.site_of_show(text))):
-                for number, (mark, partner) in enumerate(judged):
-                    try:
-                        got, eights = chain.check(own, explain(site, quotes, number, mark, partner))
-                    except (Fault, chain.Bad) as bad:
-                        self.fail(f"{bad}\nrules {rules.hex(' ')}\nbundle {bundle.hex(' ')}\nfact {number}")
-                    self.assertEqual(got, mark)
-                    seen[mark] += 1
-                    emptied += eights > 0
-                    deepest = max(deepest, eights)
-        self.assertGreater(min(seen.values()), SITES // 10)
-        self.assertGreater(emptied, SITES // 20)
+            judge, quotes, own = Judge(site), *self.quoted(site, as_text=k % 2 == 0)
+            for number, (mark, partner) in enumerate(judged):
+                try:
+                    got, eights = chain.check(own, explain(judge, quotes, number, mark, partner))
+                except (Fault, chain.Bad) as bad:
+                    self.fail(f"{bad}\nrules {rules.hex(' ')}\nbundle {bundle.hex(' ')}\nfact {number}")
+                self.assertEqual(got, mark)
+                seen[mark] += 1
+                emptied += eights > 0
+                deepest = max(deepest, eights)
+        self.assertGreater(min(seen.values()), RUNS // 2)
+        self.assertGreater(emptied, RUNS // 5)
         self.assertGreater(deepest, 1)
-        if os.environ.get("SITES"):
-            print(f"{SITES} sites, each fact twice: {seen}, {emptied} by step 8, at most {deepest} deep")
+        if "RUNS" in os.environ:
+            print(f"{RUNS} runs: {seen}, {emptied} by step 8, at most {deepest} deep")
+
+    def quoted(self, site, as_text):
+        """The tool's quotes and the checker's own reading of a site."""
+        text = write_text(site)
+        if not as_text:
+            return quotes_of_files(site), chain.site_of_show(text)
+        reading = Reading("t")
+        reading.read(text)
+        return quotes_of_text(reading), chain.site_of_text(text)
 
     def test_a_wrong_mark_is_told(self):
         """Every other mark and partner than the program's own is refused, with both told."""
@@ -291,14 +304,14 @@ class Random(unittest.TestCase):
         for _ in range(100):
             site = disputing_site(rng)
             site = site_of(write_rules(site), write_bundle(site), "")
-            quotes = quotes_of_files(site)
+            judge, quotes = Judge(site), quotes_of_files(site)
             marks, partners = model.judge(len(site.concepts), len(site.roles), site.rules, site.facts)
             for number, mark in enumerate(marks):
                 right = (("kept", "alone", "disputed")[mark], partners[number] if mark == 2 else None)
                 for wrong in [("kept", None), ("alone", None)] + [("disputed", k) for k in range(len(marks)) if k != number]:
                     if wrong != right:
                         with self.assertRaises(Fault) as caught:
-                            explain(site, quotes, number, *wrong)
+                            explain(judge, quotes, number, *wrong)
                         self.assertIn("one of the two is wrong", str(caught.exception))
                         told += 1
         self.assertGreater(told, 500)
@@ -310,10 +323,11 @@ class Random(unittest.TestCase):
         site = site_of(write_rules(Site([""] * 64, [""] * 32, {}, rules, [])), write_bundle(Site(facts=[(0, 7, 0), (63, 7, 0), (64, 1, 2)])), "")
         judged = read_listing(site, self.program(new_folder(self), write_rules(site), write_bundle(site)))
         own = chain.site_of_show(write_text(site))
+        judge, texts = Judge(site), []
         for number, (mark, partner) in enumerate(judged):
-            text = explain(site, quotes_of_files(site), number, mark, partner)
-            self.assertEqual(chain.check(own, text)[0], mark)
-        self.assertEqual(len(explain(site, quotes_of_files(site), 0, *judged[0]).splitlines()), 1 + 1 + 62 + 1 + 1)
+            texts.append(explain(judge, quotes_of_files(site), number, mark, partner))
+            self.assertEqual(chain.check(own, texts[-1])[0], mark)
+        self.assertEqual(len(texts[0].splitlines()), 1 + 1 + 62 + 1 + 1)
 
 
 class Checker(unittest.TestCase):

@@ -8,6 +8,7 @@ from .kinds import FILES, Fault, Faults, Refused, counted
 from .lines import text_of
 from .listing import KEPT, count_marks, named_listing, read_listing, read_refusal
 from .program import find_program, run_program
+from .reasons import Judge
 from .text import Reading
 
 # The exit status: the worst of all sites.
@@ -67,7 +68,7 @@ class Cleaned:
         if number >= len(self.judged):
             raise Faults([f"{self.path}: expected a fact's number, below {len(self.judged)}, found {number}"])
         try:
-            return explain(self.site, self.quotes, number, *self.judged[number])
+            return explain(Judge(self.site), self.quotes, number, *self.judged[number])
         except Fault as fault:
             raise Faults([f"{self.path}: {fault}"]) from None
 

@@ -4,7 +4,7 @@ from dataclasses import dataclass
 from .follows import ROLE, Meeting
 from .kinds import Fault
 from .listing import KEPT, judged_text
-from .reasons import Judge, types_of
+from .reasons import types_of
 from .words import basic_concept_text, basic_role_text, fact_text, rule_text, thing_text
 
 KEPT_WORDS = "nothing disputes it: the rules forbid it neither by itself nor beside a fact that is not alone"
@@ -113,9 +113,9 @@ class Chain:
         return "".join(row.rstrip() + "\n" for row in rows)
 
 
-def explain(site, quotes, number, mark, partner):
+def explain(judge, quotes, number, mark, partner):
     """Why the program gives a fact this mark and partner; Fault if the rules give another."""
-    judge = Judge(site)
+    site = judge.site
     own_mark, own_partner, why = judge.judge(number)
     says = judged_text(site, number, mark, partner)
     if (own_mark, own_partner) != (mark, partner):
