@@ -1,12 +1,20 @@
 #!/usr/bin/env bash
-# C programs that link the library, whose archive is for x86-64 alone: built and run as they are on x86-64,
-# and elsewhere with the Rattle toolchain's compiler, its C library for x86-64 and its emulator.
-#   tests/x86.sh build SANITIZED OUT SOURCE ARCHIVE    SANITIZED: yes or no
-#   tests/x86.sh command PROGRAM                       prints the words that run it
-#   tests/x86.sh run PROGRAM                           runs it
+# The one place that knows how a program for x86-64 is run, and how C programs that link the library's archive are built: as they are on
+# x86-64, and elsewhere with the Rattle toolchain's emulator, compiler and C library for x86-64. From any folder, but `build` from the root.
+#   tools/x86.sh run PROGRAM                           runs it
+#   tools/x86.sh command PROGRAM                       prints the words that run it
+#   tools/x86.sh build SANITIZED OUT SOURCE ARCHIVE    SANITIZED: yes or no
 set -u
 machine=$(uname -m)
-tools=$(dirname "$(dirname "$(rt doc)")")/on/$machine/toolchain
+emulator=()
+if [ "$machine" != x86_64 ]; then
+  command -v rt >/dev/null 2>&1 || {
+    echo "x86.sh: programs for x86-64 run on $machine under the Rattle toolchain's emulator, and its command rt is not on the PATH" >&2
+    exit 2
+  }
+  tools=$(dirname "$(dirname "$(rt doc)")")/on/$machine/toolchain
+  emulator=("$tools/bin/qemu-x86_64" "$tools/lib/ld-linux-x86-64.so.2" --library-path "$tools/lib")
+fi
 warn="-std=c11 -pedantic -Wall -Wextra -Werror"
 
 build_here() {
@@ -27,12 +35,7 @@ build_elsewhere() {
       "$2.o" "$4" "$lib/libc.so.6" "$lib/libc_nonshared.a" "$lib/libgcc.a" "$lib/crtendS.o" "$lib/crtn.o"
 }
 
-emulator=()
-if [ "$machine" != x86_64 ]; then
-  emulator=("$tools/bin/qemu-x86_64" "$tools/lib/ld-linux-x86-64.so.2" --library-path "$tools/lib")
-fi
-
-case "$1 $machine" in
+case "${1-} $machine" in
 "build x86_64") shift && build_here "$@" ;;
 "build "*) shift && build_elsewhere "$@" ;;
 "command "*) echo "${emulator[@]}" "$2" ;;
