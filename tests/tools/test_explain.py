@@ -11,7 +11,7 @@ sys.dont_write_bytecode = True
 sys.path.insert(0, os.path.dirname(os.path.abspath(__file__)))
 import chain
 import model
-from common import F, HEAD, R, SEED, file_of, new_folder, put, random_site, run
+from common import F, HEAD, R, SEED, file_of, new_folder, put, random_site, run, run_process
 from dzysite.explain import explain, quotes_of_files, quotes_of_text
 from dzysite.files import write_bundle, write_rules
 from dzysite.folder import site_of
@@ -235,7 +235,7 @@ class Examples(unittest.TestCase):
         folder = new_folder(self)
         put(folder, "rules.bin", R)
         put(folder, "bundle.bin", F)
-        status, out, errors = run("clean", folder, "--explain", "3")
+        status, out, errors = run_process("clean", folder, "--explain", "3")
         self.assertEqual((status, errors), (1, ""))
         self.assertEqual([" ".join(line.split()) for line in out.splitlines()], [
             "3 R0 9 7: disputed, partner 1 C1 7",
