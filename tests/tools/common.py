@@ -1,15 +1,20 @@
 """What the tests of tools/site share: running it, folders, the worked site's bytes, random sites."""
+import contextlib
+import io
 import os
 import subprocess
 import sys
 import tempfile
+from unittest import mock
 
 sys.dont_write_bytecode = True
 sys.path.insert(0, os.path.dirname(os.path.abspath(__file__)))
 import model
+from dzysite.commands import main
 from dzysite.files import right_of, write_bundle, write_rules
 from dzysite.kinds import Site
 
+os.chdir(model.ROOT)
 TOOL = os.path.join(model.ROOT, "tools", "site")
 R = bytes.fromhex("02 01 05 01 00 01 00 01 40 00 41 00 04 00 03 00 01")
 F = bytes.fromhex("06 00 07 01 07 01 09 40 09 07 40 09 AC 02 40 0C 0C")
@@ -25,9 +30,22 @@ HEAD = "concept A\nconcept B\nrole r\nrole s\nthing x = 1\nthing y = 2\n"
 SEED = 20011
 
 
-def run(*words, stdin=b""):
+def run_process(*words, stdin=b""):
+    """The tool as a user runs it, in the root: its status, standard output and standard error."""
     done = subprocess.run([sys.executable, TOOL, *words], input=stdin, capture_output=True, cwd=model.ROOT)
     return done.returncode, done.stdout.decode(), done.stderr.decode()
+
+
+def run(*words, stdin=b""):
+    """The same within this process, which is faster."""
+    out, errors = io.StringIO(), io.StringIO()
+    stream = io.TextIOWrapper(io.BytesIO(stdin))
+    with contextlib.redirect_stdout(out), contextlib.redirect_stderr(errors), mock.patch.object(sys, "argv", ["site", *words]), mock.patch.object(sys, "stdin", stream):
+        try:
+            status = main()
+        except SystemExit as end:
+            status = end.code
+    return status, out.getvalue(), errors.getvalue()
 
 
 def file_of(folder, name, mode="rb"):

@@ -1,6 +1,4 @@
 """The command clean: listings, summaries, statuses, several sites, refused files, and where the program is looked for."""
-import contextlib
-import io
 import os
 import shutil
 import subprocess
@@ -11,21 +9,18 @@ from unittest import mock
 sys.dont_write_bytecode = True
 sys.path.insert(0, os.path.dirname(os.path.abspath(__file__)))
 import model
-from common import F, HEAD, LISTING, R, file_of, new_folder, put, run
-from dzysite import clean, commands, program
+from common import F, HEAD, LISTING, R, file_of, new_folder, put, run, run_process
+from dzysite import clean, program
 
 WORKED, SECOND = "examples/worked-site/site.txt", "examples/second-site/site.txt"
 WORKED_SUMMARY = f"{WORKED}: 6 facts, 1 kept, 5 dropped (1 alone, 4 disputed)\n"
 SECOND_SUMMARY = f"{SECOND}: 23 facts, 12 kept, 11 dropped (1 alone, 10 disputed)\n"
 
 
-def run_within(*words, output=None):
-    """The same in this process, with the program's output given by hand."""
-    out, errors = io.StringIO(), io.StringIO()
-    with contextlib.redirect_stdout(out), contextlib.redirect_stderr(errors), mock.patch.object(sys, "argv", ["site", *words]):
-        with mock.patch.object(clean, "run_program", lambda *_: output), mock.patch.object(clean, "find_program", lambda named: "cleaner"):
-            status = commands.main()
-    return status, out.getvalue(), errors.getvalue()
+def run_with(output, *words):
+    """The tool with the program's output given by hand."""
+    with mock.patch.object(clean, "run_program", lambda *_: output):
+        return run(*words)
 
 
 class OneSite(unittest.TestCase):
@@ -34,9 +29,10 @@ class OneSite(unittest.TestCase):
             folder = new_folder(self)
             run("build", path, "-o", folder)
             plain = file_of(os.path.join(model.ROOT, os.path.dirname(path)), "listing.txt")
-            status, out, errors = run("clean", path)
+            status, out, errors = run_process("clean", path)
             self.assertEqual((status, errors), (1, ""))
-            self.assertEqual(out, run("listing", folder, stdin=plain)[1] + summary)
+            self.assertEqual(out, run_process("listing", folder, stdin=plain)[1] + summary)
+            self.assertEqual(run("clean", path), (status, out, errors))
 
     def test_disputed_facts_beside_their_partners(self):
         out = run("clean", WORKED)[1]
@@ -71,7 +67,7 @@ class OneSite(unittest.TestCase):
         path = put(folder, "site.txt", HEAD + "A x\n")
         with mock.patch.dict(os.environ, {"TMPDIR": os.path.join(folder, "tmp")}):
             os.mkdir(os.environ["TMPDIR"])
-            self.assertEqual(run("clean", path)[0], 0)
+            self.assertEqual(run_process("clean", path)[0], 0)
             self.assertEqual(os.listdir(os.environ["TMPDIR"]), [])
         self.assertEqual(sorted(os.listdir(folder)), ["site.txt", "tmp"])
 
@@ -199,25 +195,26 @@ class TheProgram(unittest.TestCase):
             (LISTING.replace("facts 6", "facts 5"), "line 1: expected 6 facts, as in bundle.bin, found 5"),
             ("refused 8 in bundle at 3\n", "refused 8 in bundle at 3"),
         ):
-            status, out, errors = run_within("clean", WORKED, output=output)
+            status, out, errors = run_with(output, "clean", WORKED)
             self.assertEqual((status, out), (2, ""))
             self.assertIn(message, errors)
 
     def test_a_mark_that_the_rules_do_not_give(self):
         lost = LISTING.replace("kept 1 alone 1 disputed 4", "kept 0 alone 2 disputed 4").replace("2 kept", "2 alone")
-        status, out, errors = run_within("clean", WORKED, "--explain", "2", output=lost)
+        status, out, errors = run_with(lost, "clean", WORKED, "--explain", "2")
         self.assertEqual((status, out), (2, ""))
         self.assertIn("the program says '2 Camera dev9: alone', and by the rules it is '2 Camera dev9: kept'; one of the two is wrong", errors)
         kept = LISTING.replace("kept 1 alone 1 disputed 4", "kept 2 alone 0 disputed 4").replace("5 alone", "5 kept")
-        status, out, errors = run_within("clean", WORKED, "--explain", "5", output=kept)
+        status, out, errors = run_with(kept, "clean", WORKED, "--explain", "5")
         self.assertEqual((status, out), (2, ""))
         self.assertIn("the program says '5 uplink 12 12: kept', and by the rules it is '5 uplink 12 12: alone'", errors)
         other = LISTING.replace("4 disputed 3", "4 disputed 5")
-        self.assertEqual(run_within("clean", WORKED, "--explain", "4", output=other)[0], 2)
+        self.assertEqual(run_with(other, "clean", WORKED, "--explain", "4")[0], 2)
 
     def test_bad_usage(self):
         for words in ((), ("clean",), ("clean", WORKED, "--explain"), ("clean", WORKED, "--unknown"), ("tidy", WORKED)):
             self.assertEqual(run(*words)[:2], (2, ""))
+        self.assertEqual(run_process("clean", WORKED, WORKED, "--explain", "0")[:2], (2, ""))
 
 
 if __name__ == "__main__":

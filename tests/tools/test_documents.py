@@ -7,7 +7,7 @@ import unittest
 sys.dont_write_bytecode = True
 sys.path.insert(0, os.path.dirname(os.path.abspath(__file__)))
 import model
-from common import F, LISTING, R, document, file_of, new_folder, put, run
+from common import F, LISTING, R, document, file_of, new_folder, put, run, run_process
 from dzysite.files import number_at, number_bytes, write_rules
 from dzysite.kinds import Faults, MOST_FACTS, MOST_NUMBER, Refused, Site
 from dzysite.text import read_text
@@ -167,7 +167,7 @@ class Documents(unittest.TestCase):
         runs = 0
         for page in pages:
             for words, shown in re.findall(r"^\$ tools/site (clean .*)\n((?:(?!```|\.fi|\$).*\n)+)", page.replace("\\-", "-"), re.M):
-                status, printed, errors = run(*words.split())
+                status, printed, errors = run_process(*words.split())
                 self.assertEqual((status, errors), (1, ""))
                 first, *last = shown.split("..\n") if "\n..\n" in shown else [shown]
                 self.assertTrue(printed.startswith(first) and printed.endswith("".join(last)), words)

@@ -11,10 +11,11 @@ sys.dont_write_bytecode = True
 sys.path.insert(0, os.path.dirname(os.path.abspath(__file__)))
 import chain
 import model
-from common import F, HEAD, R, SEED, file_of, new_folder, put, random_site, run
+from common import F, HEAD, R, SEED, file_of, new_folder, put, random_site, run, run_process
 from dzysite.explain import explain, quotes_of_files, quotes_of_text
 from dzysite.files import write_bundle, write_rules
 from dzysite.folder import site_of
+from dzysite.follows import Follows
 from dzysite.kinds import Fault, Site
 from dzysite.listing import read_listing
 from dzysite.program import RUNNER, find_program
@@ -65,6 +66,15 @@ class Written(unittest.TestCase):
             "line 10: B < A so A x",
             "line 13: r x y so some r x",
             "line 11: disjoint A some r so not both A x and some r x",
+        )
+
+    def test_the_shortest_meeting(self):
+        self.explains(
+            HEAD + "concept C\nA < C\ndisjoint C B\ndisjoint A B\nA x\nB x\n", 0,
+            "0 A x: disputed, partner 1 B x",
+            "line 11: A x",
+            "line 12: B x",
+            "line 10: disjoint A B so not both A x and B x",
         )
 
     def test_through_a_demanded_role(self):
@@ -169,6 +179,25 @@ class Written(unittest.TestCase):
             "line 9: disjoint s s so never s",
         )
 
+    def test_empty_in_two_steps_by_one_rule_twice(self):
+        text = HEAD + "concept X\nconcept P\nconcept Q\nA < some r\nsome r- < X\nX < B\nB < some s\nsome s- < X\nB < P\nsome s- < Q\ndisjoint P Q\nA x\n"
+        self.explains(
+            text, 0,
+            "0 A x: alone",
+            "line 18: A x",
+            "line 10: A < some r so some r x",
+            "but nothing is some r, since nothing is some r-:",
+            "line 11: some r- < X so X",
+            "line 12: X < B so B",
+            "line 13: B < some s so some s",
+            "but nothing is some s, since nothing is some s-:",
+            "line 14: some s- < X so X",
+            "line 12: X < B so B",
+            "line 15: B < P so P",
+            "line 16: some s- < Q so Q",
+            "line 17: disjoint P Q so not both P and Q",
+        )
+
     def test_empty_concept(self):
         self.explains(
             HEAD + "concept C\nB < A\nA < C\ndisjoint C C\nB x\n", 0,
@@ -206,7 +235,7 @@ class Examples(unittest.TestCase):
         folder = new_folder(self)
         put(folder, "rules.bin", R)
         put(folder, "bundle.bin", F)
-        status, out, errors = run("clean", folder, "--explain", "3")
+        status, out, errors = run_process("clean", folder, "--explain", "3")
         self.assertEqual((status, errors), (1, ""))
         self.assertEqual([" ".join(line.split()) for line in out.splitlines()], [
             "3 R0 9 7: disputed, partner 1 C1 7",
@@ -297,6 +326,20 @@ class Random(unittest.TestCase):
         reading = Reading("t")
         reading.read(text)
         return quotes_of_text(reading), chain.site_of_text(text)
+
+    def test_what_follows_is_document_01s(self):
+        """Ways, meetings and empty codes against included and excluded, as the steps give them."""
+        rng, seen = random.Random(SEED + 52), [0, 0, 0]
+        for _ in range(150):
+            site = disputing_site(rng)
+            follows = Follows(site)
+            included, excluded = model.follows(len(site.concepts), len(site.roles), site.rules)
+            self.assertEqual({(x, y) for x in follows.codes for y in follows.reached[x]}, included)
+            self.assertEqual(set(follows.empty), {x for x, z in excluded if x == z})
+            full = [x for x in follows.codes if x not in follows.empty]
+            self.assertEqual({(x, z) for x in full for z in full if follows.meet(x, z)}, {(x, z) for x, z in excluded if x in full and z in full})
+            seen = [a + b for a, b in zip(seen, (len(included), len(excluded), len(follows.empty)))]
+        self.assertGreater(min(seen), 300)
 
     def test_a_wrong_mark_is_told(self):
         """Every other mark and partner than the program's own is refused, with both told."""

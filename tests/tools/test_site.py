@@ -9,7 +9,7 @@ import unittest
 sys.dont_write_bytecode = True
 sys.path.insert(0, os.path.dirname(os.path.abspath(__file__)))
 import model
-from common import F, HEAD, LISTING, R, file_of, new_folder, put, run
+from common import F, HEAD, LISTING, R, file_of, new_folder, put, run, run_process
 from dzysite.kinds import Faults
 from dzysite.text import read_text
 
@@ -17,7 +17,7 @@ from dzysite.text import read_text
 class Examples(unittest.TestCase):
     def build(self, name):
         folder = new_folder(self)
-        status, _, errors = run("build", f"examples/{name}/site.txt", "-o", folder)
+        status, _, errors = run_process("build", f"examples/{name}/site.txt", "-o", folder)
         self.assertEqual((status, errors), (0, ""))
         return folder
 
@@ -46,7 +46,7 @@ class Examples(unittest.TestCase):
             self.assertEqual(run("show", again)[1], text)
 
     def test_check(self):
-        self.assertEqual(run("check", "examples/worked-site/site.txt"), (0, "examples/worked-site/site.txt: 2 concepts, 1 role, 3 named things, 5 rules, 6 facts\n", ""))
+        self.assertEqual(run_process("check", "examples/worked-site/site.txt"), (0, "examples/worked-site/site.txt: 2 concepts, 1 role, 3 named things, 5 rules, 6 facts\n", ""))
 
 
 class Text(unittest.TestCase):
