@@ -2,6 +2,7 @@ pub mod AsDocument01
 pub mod BySteps
 pub mod Computed
 pub mod Demands
+pub mod Exactly
 pub mod Face
 pub mod FirstDemand
 pub mod ReaderYields
