@@ -3,7 +3,6 @@ pub mod BySteps
 pub mod Computed
 pub mod Demands
 pub mod Exactly
-pub mod Face
 pub mod FirstDemand
 pub mod ReaderYields
 pub mod RoundTrips

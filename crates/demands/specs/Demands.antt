@@ -33,7 +33,7 @@ use Rattle.dzyunagor.specs.declared.shapes.DzyAnswer.{DzyAnswer}
 use Rattle.dzyunagor.specs.declared.shapes.DzyLength.{DzyLength}
 use Rattle.dzyunagor.specs.declared.shapes.DzyStart.{DzyStart}
 use Rattle.dzyunagor.specs.declared.shapes.DzyYield.{DzyYield}
-use Rattle.demands.specs.Face.{Face}
+use Rattle.face.specs.Face.{Face}
 use Rattle.demands.specs.Said.{Numbered, Those, HowMany, Alone, Disputed, Kept, MarkIs, PartnerIs, AnswerIs}
 
 -- it "does its work"
