@@ -28,7 +28,7 @@ use Rattle.demands.specs.Demands.{Done, BothRead, site, FactAsSaid, Coun
 use Rattle.demands.specs.Said.{Numbered, LowestSupport, AnswerIs}
 use Rattle.demands.specs.Said.AnswerIs.{yes-by as yes-so, no-fact}
 use Rattle.demands.proofs.BySteps.{getD-any, those-once, mark-said, partner-said, kept-those, kept-many, alone-many, disputed-many, support-said, no-support}
-use Rattle.demands.proofs.Computed.{tables, decided, count-is, ask-is, ask-over, Replied, has-is, joins-is, mark-counts-is, mark-is, partner-is, write-kept-is}
+use Rattle.demands.proofs.Computed.{tables, decided, count-is, ask-is, Replied, has-is, joins-is, mark-counts-is, mark-is, partner-is, write-kept-is}
 
 module _ {rules bundle : List ℕ} (a : BothRead rules bundle) where
   -- a fact's mark and partner by the tables
@@ -93,8 +93,7 @@ module _ {rules bundle : List ℕ} (a : BothRead rules bundle) where
         mark-counts = λ marks partners marks′ partners′ r p done. counts-said r (mark-counts-is a marks partners marks′ partners′ r p done);
         count = λ r p. counts-said r (count-is a r p);
         ask = asked-said;
-        ask-over = ask-over a;
-        has = λ code thing r p done. answer-said _ _ r (has-is a r done code thing p);
-        joins = λ code from to r p done. answer-said _ _ r (joins-is a r done code from to p);
+        has = λ code thing r p done. answer-said _ _ r (has-is a code thing r p done);
+        joins = λ code from to r p done. answer-said _ _ r (joins-is a code from to r p done);
         write-kept = kept-said;
       }

@@ -7,7 +7,7 @@ use mathlib.Core.List.{List, [], _∷_, map}
 use lib.Dec.{leb, ltb}
 use lib.ListN.{length, length-map, getD}
 use native.Mathlib.Omega.{arith}
-use borrow.Author.Tests.{leb-true, lt-ltb, le-ltb}
+use borrow.Author.Tests.{leb-true, lt-ltb}
 use Rattle.number.specs.Answer.{Answer, refusal, _then_, over, laid}
 use Rattle.number.specs.Answer.Answer.{gives, refuses}
 use Rattle.number.proofs.Answers.{went, passed, given-once}
@@ -28,7 +28,7 @@ use Rattle.clean.specs.Marks.{mark, marks, partner, partners, counts, kept}
 use Rattle.clean.specs.Operations.{given, roomForMarks, Marked, marking, counting, asking, Reply, replyOf, thingKnown, having, joining, keeping}
 use Rattle.clean.specs.declared.answers.Judged.{Judged}
 use Rattle.dzyunagor.specs.Promises.{Mark, Count, Ask, Has, Joins, WriteKept}
-use Rattle.dzyunagor.specs.Shown.{refused, shownCounts, shownAsked, shownReply, shownAnswer, shownLength}
+use Rattle.dzyunagor.specs.Shown.{shownCounts, shownAsked, shownReply, shownAnswer, shownLength}
 use Rattle.dzyunagor.specs.declared.shapes.DzyCounts.{DzyCounts}
 use Rattle.dzyunagor.specs.declared.shapes.DzyAsked.{DzyAsked}
 use Rattle.dzyunagor.specs.declared.shapes.DzyAnswer.{DzyAnswer}
@@ -63,20 +63,20 @@ module _ {rules bundle : List ℕ} (a : BothRead rules bundle) where
   count-is r p = p ∙ ap shownCounts (given-is (λ h t facts. gives (counts itself t facts)))
 
   -- ---- one fact
-  abbrev judgedOf : Fact → Judged
+  abbrev pub judgedOf : Fact → Judged
   judgedOf f = record { mark = mark itself tables (a .facts) f; partner = partner itself tables (a .facts) f }
 
-  abbrev nowhere : Fact
+  abbrev pub nowhere : Fact
   nowhere = record { predicate = 0; subject = 0; object = 0 }
 
-  abbrev asksFact : ℕ → Head → Follows → List Fact → Answer Judged
+  abbrev pub asksFact : ℕ → Head → Follows → List Fact → Answer Judged
   asksFact n h t facts =
       cond (ltb n (length facts))
       (gives (record { mark = mark itself t facts (getD facts n nowhere); partner = partner itself t facts (getD facts n nowhere) }))
       (refuses (refusal 10 2 0))
 
   module _ (k : ℕ) (r : DzyAsked) (p : Ask rules bundle k r) where
-    asked-so : r ≡ shownAsked (asksFact k (a .head) tables (a .facts))
+    pub asked-so : r ≡ shownAsked (asksFact k (a .head) tables (a .facts))
     unfolding Ask asking
     asked-so = p ∙ ap shownAsked (given-is (asksFact k))
 
@@ -84,9 +84,6 @@ module _ {rules bundle : List ℕ} (a : BothRead rules bundle) where
     ask-is f n same =
         asked-so ∙ ap (λ b. shownAsked (cond b (gives (judgedOf (getD (a .facts) k nowhere))) (refuses (refusal 10 2 0)))) (lt-ltb k (length (a .facts)) (n .inside))
         ∙ ap (λ (g : Fact). shownAsked (gives (judgedOf g))) same
-
-    pub ask-over : length (a .facts) ≤ k → r .refused ≡ refused (refusal 10 2 0)
-    ask-over over = ap (λ (x : DzyAsked). x .refused) (asked-so ∙ ap (λ b. shownAsked (cond b (gives (judgedOf (getD (a .facts) k nowhere))) (refuses (refusal 10 2 0)))) (le-ltb k (length (a .facts)) over))
 
   -- ---- questions: the code was declared, the things within the limit, and the answer is the definition's
   pub record Replied (declared : Type 0) (asked : Typ) (r : DzyAnswer) : Type 0 where
@@ -101,75 +98,76 @@ module _ {rules bundle : List ℕ} (a : BothRead rules bundle) where
       let t = passed (leb thing mostThing) (gives thing) (refusal 3 2 0) e in
       (leb-true thing mostThing (t .test), sym (given-once (t .answer)))
 
-  module _ (r : DzyAnswer) (done : Done (r .refused)) where
-    module _ (code thing : ℕ) (p : Has rules bundle code thing r) where
-      abbrev asks : Head → Follows → List Fact → Answer Reply
-      asks h t facts =
-          cond (conceptDeclared (h .concepts) (h .roles) code) (gives code) (refuses (refusal 5 2 0)) then λ _.
-          thingKnown thing then λ x.
-          gives (replyOf t facts (typ (concept (conceptOf code)) x x))
+  module _ (code thing : ℕ) where
+    abbrev pub asks : Head → Follows → List Fact → Answer Reply
+    asks h t facts =
+        cond (conceptDeclared (h .concepts) (h .roles) code) (gives code) (refuses (refusal 5 2 0)) then λ _.
+        thingKnown thing then λ x.
+        gives (replyOf t facts (typ (concept (conceptOf code)) x x))
 
-      asks-is : having rules bundle code thing ≡ asks (a .head) tables (a .facts)
-      unfolding having
-      asks-is = given-is asks
+    pub asks-is : having rules bundle code thing ≡ asks (a .head) tables (a .facts)
+    unfolding having
+    asks-is = given-is asks
 
-      pub has-is : Replied (conceptDeclared (a .head .concepts) (a .head .roles) code ≡ true) (typ (concept (conceptOf code)) thing thing) r
-      unfolding Has
-      has-is =
-          let g = has-tells rules bundle code thing r p .given done in
-          let w = went (cond (conceptDeclared (a .head .concepts) (a .head .roles) code) (gives code) (refuses (refusal 5 2 0))) _ (sym asks-is ∙ g .is) in
-          let v = went (thingKnown thing) _ (w .rest) in
-          let known = thing-within thing (v .value) (v .first) in
-          let asked : ℕ → Typ = λ x. typ (concept (conceptOf code)) x x in
-          let reply : g .value ≡ replyOf tables (a .facts) (asked thing) = sym (given-once (v .rest)) ∙ ap (λ (x : ℕ). replyOf tables (a .facts) (asked x)) (known .1) in
-          record {
-            known = passed (conceptDeclared (a .head .concepts) (a .head .roles) code) (gives code) (refusal 5 2 0) (w .first) .test;
-            from-within = known .0;
-            to-within = known .0;
-            seen = p ∙ ap shownAnswer (g .is) ∙ ap shownReply reply;
-          }
+    pub has-is : (r : DzyAnswer) → Has rules bundle code thing r → Done (r .refused)
+        → Replied (conceptDeclared (a .head .concepts) (a .head .roles) code ≡ true) (typ (concept (conceptOf code)) thing thing) r
+    unfolding Has
+    has-is r p done =
+        let g = has-tells rules bundle code thing r p .given done in
+        let w = went (cond (conceptDeclared (a .head .concepts) (a .head .roles) code) (gives code) (refuses (refusal 5 2 0))) _ (sym asks-is ∙ g .is) in
+        let v = went (thingKnown thing) _ (w .rest) in
+        let known = thing-within thing (v .value) (v .first) in
+        let asked : ℕ → Typ = λ x. typ (concept (conceptOf code)) x x in
+        let reply : g .value ≡ replyOf tables (a .facts) (asked thing) = sym (given-once (v .rest)) ∙ ap (λ (x : ℕ). replyOf tables (a .facts) (asked x)) (known .1) in
+        record {
+          known = passed (conceptDeclared (a .head .concepts) (a .head .roles) code) (gives code) (refusal 5 2 0) (w .first) .test;
+          from-within = known .0;
+          to-within = known .0;
+          seen = p ∙ ap shownAnswer (g .is) ∙ ap shownReply reply;
+        }
 
-    module _ (code from to : ℕ) (p : Joins rules bundle code from to r) where
-      abbrev asks-pair : Head → Follows → List Fact → Answer Reply
-      asks-pair h t facts =
-          cond (roleDeclared (h .roles) code) (gives code) (refuses (refusal 5 2 0)) then λ _.
-          thingKnown from then λ x.
-          thingKnown to then λ y.
-          gives (replyOf t facts (typ (role (roleOf code)) x y))
+  module _ (code from to : ℕ) where
+    abbrev pub asks-pair : Head → Follows → List Fact → Answer Reply
+    asks-pair h t facts =
+        cond (roleDeclared (h .roles) code) (gives code) (refuses (refusal 5 2 0)) then λ _.
+        thingKnown from then λ x.
+        thingKnown to then λ y.
+        gives (replyOf t facts (typ (role (roleOf code)) x y))
 
-      asks-pair-is : joining rules bundle code from to ≡ asks-pair (a .head) tables (a .facts)
-      unfolding joining
-      asks-pair-is = given-is asks-pair
+    pub asks-pair-is : joining rules bundle code from to ≡ asks-pair (a .head) tables (a .facts)
+    unfolding joining
+    asks-pair-is = given-is asks-pair
 
-      pub joins-is : Replied (roleDeclared (a .head .roles) code ≡ true) (typ (role (roleOf code)) from to) r
-      unfolding Joins
-      joins-is =
-          let g = joins-tells rules bundle code from to r p .given done in
-          let w = went (cond (roleDeclared (a .head .roles) code) (gives code) (refuses (refusal 5 2 0))) _ (sym asks-pair-is ∙ g .is) in
-          let v = went (thingKnown from) _ (w .rest) in
-          let u = went (thingKnown to) _ (v .rest) in
-          let first = thing-within from (v .value) (v .first) in
-          let second = thing-within to (u .value) (u .first) in
-          let asked : ℕ → ℕ → Typ = λ x y. typ (role (roleOf code)) x y in
-          let reply : g .value ≡ replyOf tables (a .facts) (asked from to) =
-          sym (given-once (u .rest)) ∙ ap (λ (x : ℕ). replyOf tables (a .facts) (asked x (u .value))) (first .1) ∙ ap (λ (y : ℕ). replyOf tables (a .facts) (asked from y)) (second .1) in
-          record {
-            known = passed (roleDeclared (a .head .roles) code) (gives code) (refusal 5 2 0) (w .first) .test;
-            from-within = first .0;
-            to-within = second .0;
-            seen = p ∙ ap shownAnswer (g .is) ∙ ap shownReply reply;
-          }
+    pub joins-is : (r : DzyAnswer) → Joins rules bundle code from to r → Done (r .refused)
+        → Replied (roleDeclared (a .head .roles) code ≡ true) (typ (role (roleOf code)) from to) r
+    unfolding Joins
+    joins-is r p done =
+        let g = joins-tells rules bundle code from to r p .given done in
+        let w = went (cond (roleDeclared (a .head .roles) code) (gives code) (refuses (refusal 5 2 0))) _ (sym asks-pair-is ∙ g .is) in
+        let v = went (thingKnown from) _ (w .rest) in
+        let u = went (thingKnown to) _ (v .rest) in
+        let first = thing-within from (v .value) (v .first) in
+        let second = thing-within to (u .value) (u .first) in
+        let asked : ℕ → ℕ → Typ = λ x y. typ (role (roleOf code)) x y in
+        let reply : g .value ≡ replyOf tables (a .facts) (asked from to) =
+        sym (given-once (u .rest)) ∙ ap (λ (x : ℕ). replyOf tables (a .facts) (asked x (u .value))) (first .1) ∙ ap (λ (y : ℕ). replyOf tables (a .facts) (asked from y)) (second .1) in
+        record {
+          known = passed (roleDeclared (a .head .roles) code) (gives code) (refusal 5 2 0) (w .first) .test;
+          from-within = first .0;
+          to-within = second .0;
+          seen = p ∙ ap shownAnswer (g .is) ∙ ap shownReply reply;
+        }
 
   -- ---- marking
   module _ (row pair : List ℕ) where
-    abbrev markingOf : Head → Follows → List Fact → Answer Marked
+    abbrev pub markingOf : Head → Follows → List Fact → Answer Marked
     markingOf h t facts = roomForMarks (length row) (length pair) facts then λ _. gives (record { counts = counts itself t facts; marks = marks itself t facts; partners = partners itself t facts })
 
-    marking-is : marking rules bundle (length row) (length pair) ≡ markingOf (a .head) tables (a .facts)
+    pub marking-is : marking rules bundle (length row) (length pair) ≡ markingOf (a .head) tables (a .facts)
     unfolding marking
     marking-is = given-is markingOf
 
-    abbrev allMarked : Marked
+    abbrev pub allMarked : Marked
     allMarked = record { counts = counts itself tables (a .facts); marks = marks itself tables (a .facts); partners = partners itself tables (a .facts) }
 
     -- what an answer that is no refusal says of the rows
@@ -215,17 +213,14 @@ module _ {rules bundle : List ℕ} (a : BothRead rules bundle) where
             ∙ ap (partner itself tables (a .facts)) (n .is)
 
   -- ---- the kept facts: their bundle has room, and is written
+  abbrev pub keptBundle : List ℕ
+  keptBundle = bundleOf (kept itself tables (a .facts))
+
+  pub keeping-is : (room : ℕ) → keeping rules bundle room ≡ roomFor room keptBundle
+  unfolding keeping
+  keeping-is room = given-is (λ h t facts. roomFor room (bundleOf (kept itself t facts)))
+
   module _ (out out′ : List ℕ) (r : DzyLength) (p : WriteKept rules bundle out r out′) (done : Done (r .refused)) where
-    abbrev keptOf : Head → Follows → List Fact → Answer (List ℕ)
-    keptOf h t facts = roomFor (length out) (bundleOf (kept itself t facts))
-
-    keeping-is : keeping rules bundle (length out) ≡ keptOf (a .head) tables (a .facts)
-    unfolding keeping
-    keeping-is = given-is keptOf
-
-    abbrev pub keptBundle : List ℕ
-    keptBundle = bundleOf (kept itself tables (a .facts))
-
     pub record WroteKept : Type 0 where
       pub fits : length keptBundle ≤ length out
       pub answer : r ≡ shownLength (gives (length keptBundle))
@@ -235,7 +230,7 @@ module _ {rules bundle : List ℕ} (a : BothRead rules bundle) where
     unfolding roomFor
     write-kept-is =
         let g = write-kept-tells rules bundle out out′ r p .given done in
-        let t = passed (leb (length keptBundle) (length out)) (gives keptBundle) (refusal 9 2 0) (sym keeping-is ∙ g .is) in
+        let t = passed (leb (length keptBundle) (length out)) (gives keptBundle) (refusal 9 2 0) (sym (keeping-is (length out)) ∙ g .is) in
         let is : keeping rules bundle (length out) ≡ gives keptBundle = g .is ∙ sym (t .answer) in
         record {
           fits = leb-true (length keptBundle) (length out) (t .test);

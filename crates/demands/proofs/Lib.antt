@@ -2,7 +2,7 @@ pub mod AsDocument01
 pub mod BySteps
 pub mod Computed
 pub mod Demands
-pub mod Face
+pub mod Exactly
 pub mod FirstDemand
 pub mod ReaderYields
 pub mod RoundTrips

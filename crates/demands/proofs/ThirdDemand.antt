@@ -83,14 +83,14 @@ module _ {rules bundle : List ℕ} (a : BothRead rules bundle) where
   has-decided : (code thing : ℕ) (r : DzyAnswer) → Has rules bundle code thing r → Done (r .refused)
       → (facts : List Fact) → KeptFacts a facts → (r .yes ≡ 1) ↔ Always itself (site a) facts (λ w. Is w (conceptOf code) (w .thing thing))
   has-decided code thing r p done facts are =
-      let q = has-is a r done code thing p in
+      let q = has-is a code thing r p done in
       always-same (λ w. Is w (conceptOf code) (w .thing thing)) (r .yes ≡ 1) facts are
       (through (reply-seen (tables a) (a .facts) _ r (q .seen)) (worlds .of-thing code thing (q .known) (q .from-within)))
 
   joins-decided : (code from to : ℕ) (r : DzyAnswer) → Joins rules bundle code from to r → Done (r .refused)
       → (facts : List Fact) → KeptFacts a facts → (r .yes ≡ 1) ↔ Always itself (site a) facts (λ w. Joined w (roleOf code) (w .thing from) (w .thing to))
   joins-decided code from to r p done facts are =
-      let q = joins-is a r done code from to p in
+      let q = joins-is a code from to r p done in
       always-same (λ w. Joined w (roleOf code) (w .thing from) (w .thing to)) (r .yes ≡ 1) facts are
       (through (reply-seen (tables a) (a .facts) _ r (q .seen)) (worlds .of-pair code from to (q .known) (q .from-within) (q .to-within)))
 

@@ -2,17 +2,18 @@
 -- memory that was lent to it. Whoever reads this page and the definitions that it names knows what is promised; `the-demands` proves it.
 use Prim.Native.Nat.{ℕ, _+_, _≤_, _<_}
 use mathlib.Core.Path.{_≡_}
-use mathlib.Core.Logic.{_↔_}
+use mathlib.Core.Bool.{true, false}
+use mathlib.Core.Logic.{_↔_, _⊎_}
 use mathlib.Core.List.{List, [], _∷_, _++_, map}
 use lib.ListN.{length, getD, take, replicate}
 use denote.Ref.{now}
 use Rattle.number.specs.Answer.{Read, refusal, laid}
 use Rattle.number.specs.Answer.Answer.{gives}
 use Rattle.number.specs.Number.{numberAt}
-use Rattle.site.specs.Codes.{conceptOf, roleOf}
+use Rattle.site.specs.Codes.{conceptOf, roleOf, conceptDeclared, roleDeclared}
 use Rattle.site.specs.Kinds.{Site}
 use Rattle.site.specs.Kinds.Node.{concept, role}
-use Rattle.site.specs.Limits.{mostConcepts, mostRoles, mostRules, mostFacts, mostNumber}
+use Rattle.site.specs.Limits.{mostConcepts, mostRoles, mostRules, mostFacts, mostNumber, mostThing}
 use Rattle.site.specs.declared.fact.Fact.{Fact}
 use Rattle.rules.specs.RuleFile.{checkRules, siteOf}
 use Rattle.rules.specs.declared.head.Head.{Head}
@@ -32,7 +33,7 @@ use Rattle.dzyunagor.specs.declared.shapes.DzyAnswer.{DzyAnswer}
 use Rattle.dzyunagor.specs.declared.shapes.DzyLength.{DzyLength}
 use Rattle.dzyunagor.specs.declared.shapes.DzyStart.{DzyStart}
 use Rattle.dzyunagor.specs.declared.shapes.DzyYield.{DzyYield}
-use Rattle.demands.specs.Face.{Face}
+use Rattle.face.specs.Face.{Face}
 use Rattle.demands.specs.Said.{Numbered, Those, HowMany, Alone, Disputed, Kept, MarkIs, PartnerIs, AnswerIs}
 
 -- it "does its work"
@@ -53,6 +54,10 @@ pub record BothRead (rules bundle : List ℕ) : Type 0 where
 -- the rules that were read
 abbrev pub site : {rules bundle : List ℕ} → BothRead rules bundle → Site
 site {rules} a = siteOf rules (a .head)
+
+-- "the kept facts": those with mark 0, in order
+abbrev pub KeptFacts : {rules bundle : List ℕ} → BothRead rules bundle → List Fact → Type 0
+KeptFacts a facts = Those (Kept itself (site a) (a .facts)) (a .facts) facts
 
 -- ---- Demand 1. "Every entry point takes arbitrary bytes, numbers and lent memory, and ends." That is `Face`.
 
@@ -96,6 +101,30 @@ module _ (rules bundle : List ℕ) where
     pub read : (r : DzyLength) → CheckBundle rules bundle r → Done (r .refused) → BothRead rules bundle
     pub counted : (a : BothRead rules bundle) (r : DzyLength) → CheckBundle rules bundle r → r ≡ shownLength (gives (length (a .facts)))
 
+-- "refuses by number and place under the table in document 01": of files that were read, by arguments and room alone, and each refusal exactly then
+module _ {rules bundle : List ℕ} (a : BothRead rules bundle) where
+  pub record RefusesExactly : Type 0 where
+    -- 9: "a lent output is too short"
+    pub mark : (marks partners marks′ partners′ : List ℕ) (r : DzyCounts) → Mark rules bundle marks partners r marks′ partners′ → length (a .facts) ≤ length marks → length (a .facts) ≤ length partners → Done (r .refused)
+    pub mark-short : (marks partners marks′ partners′ : List ℕ) (r : DzyCounts) → Mark rules bundle marks partners r marks′ partners′ → (length marks < length (a .facts)) ⊎ (length partners < length (a .facts)) → r .refused ≡ refused (refusal 9 2 0)
+    pub write-kept : (out out′ : List ℕ) (r : DzyLength) → WriteKept rules bundle out r out′ → (facts : List Fact) → KeptFacts a facts → length (bundleOf facts) ≤ length out → Done (r .refused)
+    pub write-kept-short : (out out′ : List ℕ) (r : DzyLength) → WriteKept rules bundle out r out′ → (facts : List Fact) → KeptFacts a facts → length out < length (bundleOf facts) → r .refused ≡ refused (refusal 9 2 0)
+    pub records : (row row′ : List Record) (r : DzyLength) → Records rules bundle row r row′ → length (a .facts) ≤ length row → Done (r .refused)
+    pub records-short : (row row′ : List Record) (r : DzyLength) → Records rules bundle row r row′ → length row < length (a .facts) → r .refused ≡ refused (refusal 9 2 0)
+    -- 10: "fact number not below the count"
+    pub ask : (k : ℕ) (r : DzyAsked) → Ask rules bundle k r → k < length (a .facts) → Done (r .refused)
+    pub ask-over : (k : ℕ) (r : DzyAsked) → Ask rules bundle k r → length (a .facts) ≤ k → r .refused ≡ refused (refusal 10 2 0)
+    -- "Question: code (5), then things (3), left to right."
+    pub has : (code thing : ℕ) (r : DzyAnswer) → Has rules bundle code thing r → conceptDeclared (a .head .concepts) (a .head .roles) code ≡ true → thing ≤ mostThing → Done (r .refused)
+    pub has-undeclared : (code thing : ℕ) (r : DzyAnswer) → Has rules bundle code thing r → conceptDeclared (a .head .concepts) (a .head .roles) code ≡ false → r .refused ≡ refused (refusal 5 2 0)
+    pub has-over : (code thing : ℕ) (r : DzyAnswer) → Has rules bundle code thing r → conceptDeclared (a .head .concepts) (a .head .roles) code ≡ true → mostThing < thing → r .refused ≡ refused (refusal 3 2 0)
+    pub joins : (code from to : ℕ) (r : DzyAnswer) → Joins rules bundle code from to r → roleDeclared (a .head .roles) code ≡ true → from ≤ mostThing → to ≤ mostThing → Done (r .refused)
+    pub joins-undeclared : (code from to : ℕ) (r : DzyAnswer) → Joins rules bundle code from to r → roleDeclared (a .head .roles) code ≡ false → r .refused ≡ refused (refusal 5 2 0)
+    pub joins-over : (code from to : ℕ) (r : DzyAnswer) → Joins rules bundle code from to r → roleDeclared (a .head .roles) code ≡ true → (mostThing < from) ⊎ (mostThing < to) → r .refused ≡ refused (refusal 3 2 0)
+    -- nothing else is refused
+    pub count : (r : DzyCounts) → Count rules bundle r → Done (r .refused)
+    pub reader-start : (r : DzyStart) → ReaderStart rules bundle r → Done (r .refused)
+
 -- ---- Demand 2. "Marks, counts, partners and answers equal the IAR cleaning of DL-Lite, as document 01 condenses it from the published papers."
 module _ {rules bundle : List ℕ} (a : BothRead rules bundle) where
   -- a fact's mark and partner
@@ -111,24 +140,19 @@ module _ {rules bundle : List ℕ} (a : BothRead rules bundle) where
     pub disputed : HowMany (Disputed itself (site a) (a .facts)) (a .facts) (r .disputed)
     pub sum : r .facts ≡ r .kept + r .alone + r .disputed
 
-  -- the kept facts
-  abbrev pub KeptFacts : List Fact → Type 0
-  KeptFacts facts = Those (Kept itself (site a) (a .facts)) (a .facts) facts
-
   pub record AsDocument01 : Type 0 where
     pub mark : (marks partners marks′ partners′ : List ℕ) (r : DzyCounts) → Mark rules bundle marks partners r marks′ partners′ → Done (r .refused)
         → (k : ℕ) (f : Fact) → Numbered (a .facts) k f → FactAsSaid f (getD marks′ k 0) (getD partners′ k 0)
     pub mark-counts : (marks partners marks′ partners′ : List ℕ) (r : DzyCounts) → Mark rules bundle marks partners r marks′ partners′ → Done (r .refused) → CountsAsSaid r
     pub count : (r : DzyCounts) → Count rules bundle r → CountsAsSaid r
     pub ask : (k : ℕ) (r : DzyAsked) → Ask rules bundle k r → (f : Fact) → Numbered (a .facts) k f → Done (r .refused) × FactAsSaid f (r .mark) (r .partner)
-    pub ask-over : (k : ℕ) (r : DzyAsked) → Ask rules bundle k r → length (a .facts) ≤ k → r .refused ≡ refused (refusal 10 2 0)
     pub has : (code thing : ℕ) (r : DzyAnswer) → Has rules bundle code thing r → Done (r .refused)
         → AnswerIs itself (site a) (a .facts) (typ (concept (conceptOf code)) thing thing) (r .yes) (r .fact)
     pub joins : (code from to : ℕ) (r : DzyAnswer) → Joins rules bundle code from to r → Done (r .refused)
         → AnswerIs itself (site a) (a .facts) (typ (role (roleOf code)) from to) (r .yes) (r .fact)
     -- "Writing the kept facts gives their bundle and its length"
     pub write-kept : (out out′ : List ℕ) (r : DzyLength) → WriteKept rules bundle out r out′ → Done (r .refused)
-        → (facts : List Fact) → KeptFacts facts → (r ≡ shownLength (gives (length (bundleOf facts)))) × (out′ ≡ laid out 0 (gives (bundleOf facts)))
+        → (facts : List Fact) → KeptFacts a facts → (r ≡ shownLength (gives (length (bundleOf facts)))) × (out′ ≡ laid out 0 (gives (bundleOf facts)))
 
 -- every element is a byte, as all that C lends as bytes is
 abbrev pub Bytes : List ℕ → Type 0
@@ -195,6 +219,7 @@ pub record Demands : Type 2 where
   pub face : Face
   pub one-answer : (rules bundle : List ℕ) → OneAnswer rules bundle
   pub writes-nothing : (rules bundle : List ℕ) → WritesNothing rules bundle
+  pub refuses-exactly : {rules bundle : List ℕ} (a : BothRead rules bundle) → RefusesExactly a
   pub over-limits : (rules bundle : List ℕ) → OverLimits rules bundle
   pub as-document-01 : {rules bundle : List ℕ} (a : BothRead rules bundle) → AsDocument01 a
   pub round-trips : RoundTrips

@@ -1,3 +1,2 @@
 pub mod Demands
-pub mod Face
 pub mod Said

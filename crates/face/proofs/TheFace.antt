@@ -1,5 +1,5 @@
 -- The face keeps its promises: each function's own proof is the statement.
-use Rattle.demands.specs.Face.{Face}
+use Rattle.face.specs.Face.{Face}
 use Rattle.dzyunagor.proofs.dzy_check_rules.Met as dzy_check_rules
 use Rattle.dzyunagor.proofs.dzy_check_bundle.Met as dzy_check_bundle
 use Rattle.dzyunagor.proofs.dzy_mark.Met as dzy_mark
