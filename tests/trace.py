@@ -18,7 +18,7 @@ The names before a path in brackets are declared there (definition, theorem, cod
 (test, document: a path under the root). A wrong version is CRATE/EDIT of crates/CRATE/must-fail/EDIT.edit.
 A line `<!-- .. -->` is not read.
 Every public operation has a heading `### dzy_..` with its promise, the theorem that it leaves one answer, and three
-wrong versions or answers at least; every wrong version of the repository stands somewhere. docs/EXCEPTIONS.md lists every
+wrong versions or answers at least, and is tied to its promise in crates/face/specs/Face.antt; every wrong version of the repository stands somewhere. docs/EXCEPTIONS.md lists every
 public function with a `requires`.
 """
 import os
@@ -166,6 +166,9 @@ def main():
     public = set(re.findall(r'extern "C" fn (\w+)', face))
     if public != set(operations):
         bad.append(f"docs/TRACE.md: operations that differ from the face: {sorted(public ^ set(operations))}")
+    tied = set(re.findall(r"Keeps (dzy_\w+)\.ended", (ROOT / "crates/face/specs/Face.antt").read_text(encoding="utf-8")))
+    if public != tied:
+        bad.append(f"crates/face/specs/Face.antt: operations that differ from the face: {sorted(public ^ tied)}")
     all_edits = {f"{p.parent.parent.name}/{p.stem}" for p in ROOT.glob("crates/*/must-fail/*.edit")}
     bad.extend(f"docs/TRACE.md: wrong version {name} holds no sentence" for name in sorted(all_edits - edits))
     print("\n".join(bad + [f"{sentences} sentences, {len(operations)} operations, {len(edits)} wrong versions, {len(bad)} faults"]))
