@@ -26,7 +26,7 @@ use Rattle.bundle.specs.Records.{roomFor, recordFault, recordsFrom, planRecords
 use Rattle.follows.specs.Tables.{Follows, followsOf}
 use Rattle.clean.specs.Operations.{Reply, given, roomForMarks, thingKnown, marking, counting, asking, having, joining, keeping}
 use Rattle.clean.specs.Operations.Reply.{yes-by, none as no-fact}
-use Rattle.operations.specs.Promises.{opening}
+use Rattle.bundle.specs.Opened.{opening}
 use Rattle.records.specs.Reading.{Found, readerStart, readerStep}
 use Rattle.records.specs.Reading.Found.{fact, done}
 use Rattle.records.specs.Rows.{factOf, handOut, handRecords, writeRow}

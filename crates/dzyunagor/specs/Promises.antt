@@ -8,7 +8,7 @@ use denote.Ref.{now}
 use Rattle.number.specs.Answer.{over, laid}
 use Rattle.rules.specs.RuleFile.{checkRules}
 use Rattle.clean.specs.Operations.{marking, counting, asking, having, joining, keeping}
-use Rattle.operations.specs.Promises.{opening}
+use Rattle.bundle.specs.Opened.{opening}
 use Rattle.records.specs.Reading.{readerStart, readerStep}
 use Rattle.records.specs.Rows.{handRecords, rowAfter, writeRow}
 use Rattle.records.specs.declared.record.Record.{Record}

@@ -25,8 +25,7 @@ use Rattle.bundle.specs.Records.{roomFor, recordFault, recordsFrom, planRecords
 use Rattle.bundle.specs.declared.facts.Facts.{Facts}
 use Rattle.bundle.proofs.Accepted.{accepted-lawful}
 use Rattle.bundle.proofs.RoundTrips.{writtenHead, written-accepted, written-facts, accepted-again}
-use Rattle.bundle.proofs.Rewriting.{lawful-sound}
-use Rattle.bundle.proofs.Faults.{Sound, same-fault}
+use Rattle.bundle.proofs.Faults.{Sound, same-fault, lawful-sound}
 use Rattle.bundle.proofs.Faults.Sound.{no-more, sound}
 use Rattle.records.specs.Rows.{recordOf, factOf, handOut, handRecords, writeRow}
 use Rattle.records.specs.declared.record.Record.{Record}
