@@ -4,13 +4,14 @@ ghost use mathlib.Core.List.{[], _++_};
 ghost use lib.Seq.{sets};
 ghost use Rattle.number.specs.Number.{bytesOf};
 ghost use Rattle.bundle.specs.Bundle.{factsOf};
+ghost use Rattle.bundle.specs.Opened.{Accepted};
 ghost use Rattle.clean.specs.Coded.{bitsFollow};
 ghost use Rattle.clean.specs.Keeping.{keptBytes};
-ghost use Rattle.operations.specs.Promises.{Accepted, WritesKept, StoresBundle};
-use crate::open::Opened;
-use crate::open::open_inputs;
+ghost use Rattle.operations.specs.Promises.{WritesKept, StoresBundle};
 use bundle::BundleWrote;
 use bundle::Facts;
+use bundle::Opened;
+use bundle::open_inputs;
 use bundle::put_number;
 use clean::measure_kept;
 use clean::store_kept;
@@ -51,11 +52,7 @@ fn write_accepted(
     let measure = measure_kept(bundle, facts, &excluded, functional);
     let length = size_of_number(measure.count) + measure.size;
     if out.len() < length {
-        return BundleWrote::Refused(Refusal {
-            number: Refusal::ROOM,
-            side: Refusal::CALL,
-            place: 0,
-        });
+        return BundleWrote::Refused(Refusal::NO_ROOM);
     }
     store_bundle(out, measure.count, bundle, facts, &excluded, functional);
     BundleWrote::Written(length)

@@ -1,10 +1,11 @@
 // Marking a bundle, counting its marks, and asking about one fact.
 ghost use mathlib.Core.Path.{_≡_};
+ghost use Rattle.bundle.specs.Opened.{Accepted};
 ghost use Rattle.clean.specs.Operations.{counting, asking};
-ghost use Rattle.operations.specs.Promises.{Accepted, MarksAll, countedTold, askedTold};
-use crate::open::Opened;
-use crate::open::open_inputs;
+ghost use Rattle.operations.specs.Promises.{MarksAll, countedTold, askedTold};
 use bundle::Facts;
+use bundle::Opened;
+use bundle::open_inputs;
 use clean::Counts;
 use clean::Judged;
 use clean::count_facts;
@@ -30,11 +31,7 @@ pub enum Asked {
 fn no_room() -> Counted
     ensures { λ r. ⌜ r ≡ Counted.Refused (record { number = 9; side = 2; place = 0 }) ⌝ }
 {
-    Counted::Refused(Refusal {
-        number: Refusal::ROOM,
-        side: Refusal::CALL,
-        place: 0,
-    })
+    Counted::Refused(Refusal::NO_ROOM)
 }
 
 fn mark_accepted(

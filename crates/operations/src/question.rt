@@ -1,10 +1,11 @@
 // The two simple questions.
 ghost use mathlib.Core.Path.{_≡_};
+ghost use Rattle.bundle.specs.Opened.{Accepted};
 ghost use Rattle.clean.specs.Operations.{having, joining};
-ghost use Rattle.operations.specs.Promises.{Accepted, repliedTold, RepliesTo};
-use crate::open::Opened;
-use crate::open::open_inputs;
+ghost use Rattle.operations.specs.Promises.{repliedTold, RepliesTo};
 use bundle::Facts;
+use bundle::Opened;
+use bundle::open_inputs;
 use clean::Typ;
 use clean::lowest_support;
 use follows::fill;

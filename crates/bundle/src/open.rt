@@ -1,9 +1,9 @@
 // "rules, then bundle": both read, or the first refusal.
 ghost use mathlib.Core.Path.{_≡_};
-ghost use Rattle.operations.specs.Promises.{opening, openedTold, openedRefusal};
-use bundle::BundleRead;
-use bundle::Facts;
-use bundle::check_bundle;
+ghost use Rattle.bundle.specs.Opened.{opening, openedTold, openedRefusal};
+use crate::check::BundleRead;
+use crate::check::check_bundle;
+use crate::facts::Facts;
 use number::Refusal;
 use rules::Head;
 use rules::RulesRead;
@@ -26,11 +26,7 @@ impl Opened {
         ensures { λ r. ⌜ r ≡ openedRefusal self ⌝ }
     {
         match self {
-            Opened::Accepted(_) => Refusal {
-                number: 0,
-                side: 0,
-                place: 0,
-            },
+            Opened::Accepted(_) => Refusal::NONE,
             Opened::Refused(r) => r,
         }
     }
