@@ -11,13 +11,14 @@ use crate::clash::is_alone;
 use bundle::FactRead;
 use bundle::Facts;
 use bundle::any_fact_at;
+use follows::Table;
 use site::Fact;
 
 // What stands for no partner.
 pub const NONE: u32 = 65535;
 
 // A fact that is not alone and contradicts another.
-fn disputes(excluded: &[u64; 576], functional: u64, f: Fact, g: Fact) -> bool
+fn disputes(excluded: &Table, functional: u64, f: Fact, g: Fact) -> bool
     ensures { λ r. ⌜ r ≡ (contradict itself (bitsFollow [] (now (excluded .entry)) functional) f g && not (alone itself (bitsFollow [] (now (excluded .entry)) 0) g)) ⌝ }
 {
     if do_contradict(excluded, functional, f, g) {
@@ -27,13 +28,7 @@ fn disputes(excluded: &[u64; 576], functional: u64, f: Fact, g: Fact) -> bool
 }
 
 // "the lowest-numbered fact it clashes with, or 65,535"
-pub fn lowest_clash(
-    bundle: &[u8],
-    facts: Facts,
-    excluded: &[u64; 576],
-    functional: u64,
-    f: Fact,
-) -> u32
+pub fn lowest_clash(bundle: &[u8], facts: Facts, excluded: &Table, functional: u64, f: Fact) -> u32
     ensures { λ r. ⌜ r ≡ partner itself (bitsFollow [] (now (excluded .entry)) functional) (factsOf (now (bundle .entry)) facts) f ⌝ }
 {
     if is_alone(excluded, f) {

@@ -20,10 +20,11 @@ use crate::verdict::judge;
 use bundle::FactRead;
 use bundle::Facts;
 use bundle::any_fact_at;
+use follows::Table;
 use site::Fact;
 
 // "one of whose types, at a or at the pair, is included in the asked code"
-fn supports(included: &[u64; 576], asked: Typ, f: Fact) -> bool
+fn supports(included: &Table, asked: Typ, f: Fact) -> bool
     ensures { λ r. ⌜ r ≡ supportsCoded (now (included .entry)) asked f ⌝ }
 {
     if f.of_concept() {
@@ -45,8 +46,8 @@ fn supports(included: &[u64; 576], asked: Typ, f: Fact) -> bool
 fn keeps(
     bundle: &[u8],
     facts: Facts,
-    included: &[u64; 576],
-    excluded: &[u64; 576],
+    included: &Table,
+    excluded: &Table,
     functional: u64,
     asked: Typ,
     f: Fact,
@@ -65,8 +66,8 @@ fn keeps(
 pub fn lowest_support(
     bundle: &[u8],
     facts: Facts,
-    included: &[u64; 576],
-    excluded: &[u64; 576],
+    included: &Table,
+    excluded: &Table,
     functional: u64,
     asked: Typ,
 ) -> u32

@@ -12,6 +12,7 @@ use crate::clash::is_alone;
 use crate::search::NONE;
 use crate::search::lowest_clash;
 use bundle::Facts;
+use follows::Table;
 use site::Fact;
 
 // The marks: "0 kept, 1 alone, 2 disputed".
@@ -21,7 +22,7 @@ pub const ALONE: u32 = 1;
 
 pub const DISPUTED: u32 = 2;
 
-pub fn judge(bundle: &[u8], facts: Facts, excluded: &[u64; 576], functional: u64, f: Fact) -> Judged
+pub fn judge(bundle: &[u8], facts: Facts, excluded: &Table, functional: u64, f: Fact) -> Judged
     requires { ⌜ facts .count ≤ mostFacts ⌝ }
     ensures { λ r. ⌜ r ≡ record { mark = mark itself (bitsFollow [] (now (excluded .entry)) functional) (factsOf (now (bundle .entry)) facts) f; partner = partner itself (bitsFollow [] (now (excluded .entry)) functional) (factsOf (now (bundle .entry)) facts) f } ⌝ }
 {

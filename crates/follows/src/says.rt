@@ -8,6 +8,7 @@ ghost use Rattle.site.specs.Told.{ruleTold};
 ghost use Rattle.follows.specs.Bits.{IsTable};
 ghost use Rattle.follows.specs.Tables.{arrowsOf};
 ghost use Rattle.follows.specs.Adding.{AddedAll, roleArrows, someArrows, inBothOrders, exclusionsOf, ring, rings, FunctionalAdded};
+use crate::bits::Table;
 use crate::bits::add;
 use crate::listed::wide;
 use site::BasicConcept;
@@ -38,7 +39,7 @@ fn role_node(q: BasicRole) -> usize
 }
 
 // The arrows of q1 in q2 and of their inverses.
-fn add_roles(t: &mut [u64; 576], p: BasicRole, q: BasicRole)
+fn add_roles(t: &mut Table, p: BasicRole, q: BasicRole)
     requires { ⌜ IsTable (now t) ⌝ }
     ensures { λ r. ⌜ AddedAll (roleArrows (roleOf (p .code)) (roleOf (q .code))) (now (t .entry)) (now (t .exit)) ⌝ }
 {
@@ -47,7 +48,7 @@ fn add_roles(t: &mut [u64; 576], p: BasicRole, q: BasicRole)
 }
 
 // The arrows of having partners by them.
-fn add_somes(t: &mut [u64; 576], p: BasicRole, q: BasicRole)
+fn add_somes(t: &mut Table, p: BasicRole, q: BasicRole)
     requires { ⌜ IsTable (now t) ⌝ }
     ensures { λ r. ⌜ AddedAll (someArrows (roleOf (p .code)) (roleOf (q .code))) (now (t .entry)) (now (t .exit)) ⌝ }
 {
@@ -56,7 +57,7 @@ fn add_somes(t: &mut [u64; 576], p: BasicRole, q: BasicRole)
 }
 
 // All arrows of q1 in q2.
-fn add_role_arrows(t: &mut [u64; 576], p: BasicRole, q: BasicRole)
+fn add_role_arrows(t: &mut Table, p: BasicRole, q: BasicRole)
     requires { ⌜ IsTable (now t) ⌝ }
     ensures { λ r. ⌜ AddedAll (arrowsOf (roleIncluded (roleOf (p .code)) (roleOf (q .code)))) (now (t .entry)) (now (t .exit)) ⌝ }
 {
@@ -65,7 +66,7 @@ fn add_role_arrows(t: &mut [u64; 576], p: BasicRole, q: BasicRole)
 }
 
 // A rule's arrows.
-pub fn add_arrows(t: &mut [u64; 576], rule: Rule)
+pub fn add_arrows(t: &mut Table, rule: Rule)
     requires { ⌜ IsTable (now t) ⌝ }
     ensures { λ r. ⌜ AddedAll (arrowsOf (ruleTold rule)) (now (t .entry)) (now (t .exit)) ⌝ }
 {
@@ -79,7 +80,7 @@ pub fn add_arrows(t: &mut [u64; 576], rule: Rule)
 }
 
 // The written exclusion of two concepts, in both orders.
-fn add_disjoint(t: &mut [u64; 576], b: BasicConcept, c: BasicConcept)
+fn add_disjoint(t: &mut Table, b: BasicConcept, c: BasicConcept)
     requires { ⌜ IsTable (now t) ⌝ }
     ensures { λ r. ⌜ AddedAll (inBothOrders (record { left = concept (conceptOf (b .code)); right = concept (conceptOf (c .code)) })) (now (t .entry)) (now (t .exit)) ⌝ }
 {
@@ -88,7 +89,7 @@ fn add_disjoint(t: &mut [u64; 576], b: BasicConcept, c: BasicConcept)
 }
 
 // That of two basic roles.
-fn add_roles_apart(t: &mut [u64; 576], p: BasicRole, q: BasicRole)
+fn add_roles_apart(t: &mut Table, p: BasicRole, q: BasicRole)
     requires { ⌜ IsTable (now t) ⌝ }
     ensures { λ r. ⌜ AddedAll (inBothOrders (record { left = role (roleOf (p .code)); right = role (roleOf (q .code)) })) (now (t .entry)) (now (t .exit)) ⌝ }
 {
@@ -97,7 +98,7 @@ fn add_roles_apart(t: &mut [u64; 576], p: BasicRole, q: BasicRole)
 }
 
 // That of two basic roles, and of their inverses.
-fn add_role_disjoint(t: &mut [u64; 576], p: BasicRole, q: BasicRole)
+fn add_role_disjoint(t: &mut Table, p: BasicRole, q: BasicRole)
     requires { ⌜ IsTable (now t) ⌝ }
     ensures { λ r. ⌜ AddedAll (exclusionsOf (roleDisjoint (roleOf (p .code)) (roleOf (q .code)))) (now (t .entry)) (now (t .exit)) ⌝ }
 {
@@ -106,7 +107,7 @@ fn add_role_disjoint(t: &mut [u64; 576], p: BasicRole, q: BasicRole)
 }
 
 // A rule's written exclusions.
-pub fn add_exclusions(t: &mut [u64; 576], rule: Rule)
+pub fn add_exclusions(t: &mut Table, rule: Rule)
     requires { ⌜ IsTable (now t) ⌝ }
     ensures { λ r. ⌜ AddedAll (exclusionsOf (ruleTold rule)) (now (t .entry)) (now (t .exit)) ⌝ }
 {
@@ -144,7 +145,7 @@ pub fn add_functional(mask: u64, rule: Rule) -> u64
 }
 
 // The ring of a role.
-fn add_ring(t: &mut [u64; 576], j: u32)
+fn add_ring(t: &mut Table, j: u32)
     requires { ⌜ IsTable (now t) ⌝ }
     ensures { λ r. ⌜ AddedAll (ring j) (now (t .entry)) (now (t .exit)) ⌝ }
 {
@@ -159,7 +160,7 @@ fn add_ring(t: &mut [u64; 576], j: u32)
 }
 
 // The rings of all declared roles.
-pub fn add_rings(t: &mut [u64; 576], d: Declared)
+pub fn add_rings(t: &mut Table, d: Declared)
     requires { ⌜ IsTable (now t) ⌝ }
     ensures { λ r. ⌜ AddedAll (rings (d .roles)) (now (t .entry)) (now (t .exit)) ⌝ }
 {
