@@ -9,6 +9,7 @@ pub const WORDS: usize = 3;
 
 pub const BITS: usize = 64;
 
+// The words of a table.
 pub const SIZE: usize = NODES * WORDS;
 
 pub type Table = [u64; SIZE];
