@@ -11,7 +11,6 @@ use crate::types::Typ;
 use crate::types::back_partner_type;
 use crate::types::back_role_type;
 use crate::types::concept_type;
-use crate::types::forward_code;
 use crate::types::partner_type;
 use crate::types::role_type;
 use follows::Table;
@@ -81,7 +80,7 @@ pub fn is_alone(excluded: &Table, f: Fact) -> bool
 fn is_functional(functional: u64, code: usize) -> bool
     ensures { λ r. ⌜ r ≡ hasRole functional code ⌝ }
 {
-    if code >= 64 {
+    if code >= BasicRole::COUNT as usize {
         return false;
     }
     (functional >> code) % 2 == 1
@@ -113,13 +112,21 @@ fn split_facts(functional: u64, f: Fact, g: Fact) -> bool
     if f.predicate != g.predicate {
         return false;
     }
-    let code = forward_code(f);
-    if splits(functional, code, f.subject, g.subject, f.object, g.object) {
+    let role = f.role();
+    let forward = role.forward();
+    if splits(
+        functional,
+        forward,
+        f.subject,
+        g.subject,
+        f.object,
+        g.object,
+    ) {
         return true;
     }
     splits(
         functional,
-        code + 1,
+        role.inverse(),
         f.object,
         g.object,
         f.subject,

@@ -10,7 +10,7 @@ ghost use Rattle.clean.specs.Types.{itself};
 ghost use Rattle.clean.specs.Marks.{marked};
 ghost use Rattle.clean.specs.Keeping.{keptBytes, measureOf, measuredWith, SmallMeasure, StoresIf, StoredIf, StoredKept};
 ghost use Rattle.clean.specs.Coded.{bitsFollow};
-use crate::verdict::KEPT;
+use crate::answers::Judged;
 use crate::verdict::judge;
 use bundle::FactRead;
 use bundle::Facts;
@@ -48,7 +48,7 @@ fn is_kept(bundle: &[u8], facts: Facts, excluded: &Table, functional: u64, f: Fa
     ensures { λ r. ⌜ r ≡ marked itself (bitsFollow [] (now (excluded .entry)) functional) (factsOf (now (bundle .entry)) facts) 0 f ⌝ }
 {
     let judged = judge(bundle, facts, excluded, functional, f);
-    judged.mark == KEPT
+    judged.mark == Judged::KEPT
 }
 
 pub fn measure_kept(bundle: &[u8], facts: Facts, excluded: &Table, functional: u64) -> Measure

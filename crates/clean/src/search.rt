@@ -14,9 +14,6 @@ use bundle::any_fact_at;
 use follows::Table;
 use site::Fact;
 
-// What stands for no partner.
-pub const NONE: u32 = 65535;
-
 // A fact that is not alone and contradicts another.
 fn disputes(excluded: &Table, functional: u64, f: Fact, g: Fact) -> bool
     ensures { λ r. ⌜ r ≡ (contradict itself (bitsFollow [] (now (excluded .entry)) functional) f g && not (alone itself (bitsFollow [] (now (excluded .entry)) 0) g)) ⌝ }
@@ -32,7 +29,7 @@ pub fn lowest_clash(bundle: &[u8], facts: Facts, excluded: &Table, functional: u
     ensures { λ r. ⌜ r ≡ partner itself (bitsFollow [] (now (excluded .entry)) functional) (factsOf (now (bundle .entry)) facts) f ⌝ }
 {
     if is_alone(excluded, f) {
-        return NONE;
+        return Fact::NO_PARTNER;
     }
     let mut at = facts.start;
     let mut left = facts.count;
@@ -40,7 +37,7 @@ pub fn lowest_clash(bundle: &[u8], facts: Facts, excluded: &Table, functional: u
     while 0 < left {
         let got = any_fact_at(bundle, at);
         let FactRead::Read(g, next) = got else {
-            return NONE;
+            return Fact::NO_PARTNER;
         };
         if disputes(excluded, functional, f, g) {
             return i;
@@ -49,5 +46,5 @@ pub fn lowest_clash(bundle: &[u8], facts: Facts, excluded: &Table, functional: u
         left -= 1;
         i += 1;
     }
-    NONE
+    Fact::NO_PARTNER
 }

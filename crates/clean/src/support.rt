@@ -8,6 +8,7 @@ ghost use Rattle.bundle.specs.Bundle.{factsOf};
 ghost use Rattle.clean.specs.Types.{itself};
 ghost use Rattle.clean.specs.Marks.{marked};
 ghost use Rattle.clean.specs.Coded.{bitsFollow, supportsCoded, supportIn};
+use crate::answers::Judged;
 use crate::clash::related;
 use crate::types::Typ;
 use crate::types::back_partner_type;
@@ -15,7 +16,6 @@ use crate::types::back_role_type;
 use crate::types::concept_type;
 use crate::types::partner_type;
 use crate::types::role_type;
-use crate::verdict::KEPT;
 use crate::verdict::judge;
 use bundle::FactRead;
 use bundle::Facts;
@@ -57,7 +57,7 @@ fn keeps(
 {
     if supports(included, asked, f) {
         let judged = judge(bundle, facts, excluded, functional, f);
-        return judged.mark == KEPT;
+        return judged.mark == Judged::KEPT;
     }
     false
 }
