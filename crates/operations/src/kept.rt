@@ -15,6 +15,8 @@ use bundle::open_inputs;
 use bundle::put_number;
 use clean::measure_kept;
 use clean::store_kept;
+use follows::BLANK;
+use follows::Table;
 use follows::fill;
 use number::Refusal;
 use number::size_of_number;
@@ -26,7 +28,7 @@ fn store_bundle(
     count: u32,
     bundle: &[u8],
     facts: Facts,
-    excluded: &[u64; 576],
+    excluded: &Table,
     functional: u64,
 )
     requires { ⌜ StoresBundle (bitsFollow [] (now excluded) functional) (now bundle) facts count (now out) ⌝ }
@@ -46,8 +48,8 @@ fn write_accepted(
     requires { ⌜ Accepted (now rules) (now bundle) head facts ⌝ }
     ensures { λ r. ⌜ WritesKept (now (rules .entry)) (now (bundle .entry)) (now (out .entry)) r (now (out .exit)) ⌝ }
 {
-    let mut included = [0u64; 576];
-    let mut excluded = [0u64; 576];
+    let mut included = BLANK;
+    let mut excluded = BLANK;
     let functional = fill(rules, head, &mut included, &mut excluded);
     let measure = measure_kept(bundle, facts, &excluded, functional);
     let length = size_of_number(measure.count) + measure.size;

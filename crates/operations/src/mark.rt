@@ -12,6 +12,7 @@ use clean::count_facts;
 use clean::fact_number;
 use clean::judge;
 use clean::mark_facts;
+use follows::BLANK;
 use follows::fill;
 use number::Refusal;
 use rules::Head;
@@ -52,8 +53,8 @@ fn mark_accepted(
     if partners.len() < count {
         return no_room();
     }
-    let mut included = [0u64; 576];
-    let mut excluded = [0u64; 576];
+    let mut included = BLANK;
+    let mut excluded = BLANK;
     let functional = fill(rules, head, &mut included, &mut excluded);
     Counted::Counts(mark_facts(bundle, facts, &excluded, functional, marks, partners))
 }
@@ -73,8 +74,8 @@ fn count_accepted(rules: &[u8], head: Head, bundle: &[u8], facts: Facts) -> Coun
     requires { ⌜ Accepted (now rules) (now bundle) head facts ⌝ }
     ensures { λ r. ⌜ countedTold r ≡ counting (now (rules .entry)) (now (bundle .entry)) ⌝ }
 {
-    let mut included = [0u64; 576];
-    let mut excluded = [0u64; 576];
+    let mut included = BLANK;
+    let mut excluded = BLANK;
     let functional = fill(rules, head, &mut included, &mut excluded);
     Counted::Counts(count_facts(bundle, facts, &excluded, functional))
 }
@@ -101,8 +102,8 @@ fn ask_accepted(rules: &[u8], head: Head, bundle: &[u8], facts: Facts, number: u
             place: 0,
         });
     }
-    let mut included = [0u64; 576];
-    let mut excluded = [0u64; 576];
+    let mut included = BLANK;
+    let mut excluded = BLANK;
     let functional = fill(rules, head, &mut included, &mut excluded);
     let f = fact_number(bundle, facts, number as u32);
     Asked::Judged(judge(bundle, facts, &excluded, functional, f))
