@@ -11,3 +11,4 @@ pub mod Answered
 pub mod WorldsDecide
 pub mod Demand
 pub mod Endless
+pub mod Finite
