@@ -117,9 +117,6 @@ devices-hold : (f : Fact) → List·Memᴰ f camera → Holds devices f
 devices-hold f (List·Memᴰ·head e) = subst⁻¹ (Holds devices) e refl
 devices-hold f (List·Memᴰ·tail m) = elim m [ ]
 
-devices-name : (a b : ℕ) → a ≤ mostThing → b ≤ mostThing → device a ≡ device b → a ≡ b
-devices-name a b m n e = let p : min a mostThing ≡ min b mostThing = ap (λ x. x .number) e in omega arith
-
 abbrev pub HasFinite : Site → List Fact → Type 1
 HasFinite s facts = (w : World) × Finite w × WorldOf itself s facts w
 
@@ -128,7 +125,7 @@ devices-are = (
   devices,
   record { number = λ x. x .number; within = λ x. x .within; different = one-device },
   record {
-    names = record { different = devices-name; alike = λ a b e. ap device e };
+    names = record { different = λ a b m n e. let p : min a mostThing ≡ min b mostThing = ap (λ x. x .number) e in omega arith; alike = λ a b e. ap device e };
     obeys = devices-obey;
     holds = devices-hold;
   },
