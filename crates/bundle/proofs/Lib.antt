@@ -1,4 +1,5 @@
 pub mod Accepted
+pub mod AtLimits
 pub mod Cases
 pub mod FactBytes
 pub mod Faults

@@ -1,5 +1,6 @@
 pub mod Accepted
 pub mod AcceptedFile
+pub mod AtLimits
 pub mod Cases
 pub mod Checking
 pub mod Exact

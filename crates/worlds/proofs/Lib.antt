@@ -6,6 +6,7 @@ pub mod Consistency
 pub mod Demand
 pub mod Dropped
 pub mod Endless
+pub mod Finite
 pub mod OfLists
 pub mod Repairs
 pub mod SiteDecided
