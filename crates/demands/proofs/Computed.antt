@@ -10,6 +10,7 @@ use native.Mathlib.Omega.{arith}
 use borrow.Author.Tests.{leb-true, lt-ltb}
 use Rattle.number.specs.Answer.{Answer, refusal, _then_, over, laid}
 use Rattle.number.specs.Answer.Answer.{gives, refuses}
+use Rattle.number.proofs.Laid.{laid-at}
 use Rattle.number.proofs.Answers.{went, passed, given-once}
 use Rattle.site.specs.Codes.{conceptOf, roleOf, conceptDeclared, roleDeclared}
 use Rattle.site.specs.Kinds.Node.{concept, role}
@@ -36,7 +37,6 @@ use Rattle.dzyunagor.specs.declared.shapes.DzyLength.{DzyLength}
 use Rattle.dzyunagor.proofs.NeverZero.{mark-tells, has-tells, joins-tells, write-kept-tells}
 use Rattle.demands.specs.Demands.{Done, BothRead, site}
 use Rattle.demands.specs.Said.{Numbered}
-use Rattle.demands.proofs.Written.{laid-at}
 
 -- a row of what each fact has, at a fact that is there, whatever stands for one that is not
 row-at : (f : Fact → ℕ) (l : List Fact) (k : ℕ) (d : Fact) → k < length l → getD (map f l) k 0 ≡ f (getD l k d)

@@ -16,6 +16,7 @@ use Rattle.site.specs.Kinds.Node.{concept, role}
 use Rattle.site.specs.Limits.{mostThing}
 use Rattle.site.specs.declared.fact.Fact.{Fact}
 use Rattle.bundle.specs.Bundle.{factsOf, checkBundle, readBundle, bundleOf}
+use Rattle.bundle.specs.Opened.{opening}
 use Rattle.bundle.specs.Records.{roomFor}
 use Rattle.bundle.specs.declared.facts.Facts.{Facts}
 use Rattle.bundle.proofs.Accepted.{accepted-count}
@@ -82,7 +83,7 @@ module _ {rules bundle : List ℕ} (a : BothRead rules bundle) where
 
   -- ---- records
   hand-is : (room : ℕ) → handRecords rules bundle room ≡ cond (leb (length (a .facts)) room) (gives (map recordOf (a .facts))) (refuses (refusal 9 2 0))
-  unfolding handRecords handOut readBundle
+  unfolding handRecords handOut opening readBundle
   hand-is room =
       let b = over-given (factsOf bundle) (checkBundle (a .head) bundle) (a .bundle-read) in
       let many : b .value .count ≡ length (a .facts) = sym (accepted-count (a .head) bundle (b .value) (b .given)) ∙ ap length (b .told) in

@@ -19,12 +19,12 @@ use Rattle.rules.specs.declared.head.Head.{Head}
 use Rattle.rules.proofs.AcceptedFile.{accepted-rules}
 use Rattle.bundle.specs.Bundle.{factsOf, checkBundle, readBundle}
 use Rattle.bundle.specs.Lawful.{LawfulFacts}
+use Rattle.bundle.specs.Opened.{opening}
 use Rattle.bundle.specs.declared.facts.Facts.{Facts}
+use Rattle.bundle.specs.declared.open.Inputs.{Inputs}
 use Rattle.bundle.proofs.Accepted.{accepted-lawful, accepted-count}
 use Rattle.clean.specs.Operations.{Marked, marking, keeping}
-use Rattle.operations.specs.Promises.{opening}
-use Rattle.operations.specs.declared.open.Inputs.{Inputs}
-use Rattle.records.specs.Rows.{handRecords, rowAfter, writeRow}
+use Rattle.records.specs.Rows.{handRecords, writeRow}
 use Rattle.records.specs.declared.record.Record.{Record}
 use Rattle.records.specs.declared.reader.Reader.{Reader}
 use Rattle.records.proofs.OfReader.{refused-stays}
@@ -62,9 +62,6 @@ module _ {A : Type 0} (a : Answer A) (q : Refusal) (stopped : a ≡ refuses q) w
 no-bytes : {B : Type 0} (a : Answer (List B)) (q : Refusal) (out : List B) → a ≡ refuses q → laid out 0 a ≡ out
 no-bytes a q out stopped = rw stopped
 
-no-rows : (a : Answer (List Record)) (q : Refusal) (row : List Record) → a ≡ refuses q → rowAfter row a ≡ row
-no-rows a q row stopped = rw stopped
-
 module _ (rules bundle : List ℕ) where
   mark-writes : (marks partners marks′ partners′ : List ℕ) (r : DzyCounts) → Mark rules bundle marks partners r marks′ partners′ → Refused (r .refused) → (marks′ ≡ marks) × (partners′ ≡ partners)
   mark-writes marks partners marks′ partners′ r p low =
@@ -77,7 +74,7 @@ module _ (rules bundle : List ℕ) where
   kept-writes out out′ r p low = p .memory ∙ no-bytes (keeping rules bundle (length out)) _ out (write-kept-tells rules bundle out out′ r p .refused low)
 
   records-write : (row row′ : List Record) (r : DzyLength) → Records rules bundle row r row′ → Refused (r .refused) → row′ ≡ row
-  records-write row row′ r p low = p .memory ∙ no-rows (handRecords rules bundle (length row)) _ row (records-tells rules bundle row row′ r p .refused low)
+  records-write row row′ r p low = p .memory ∙ no-bytes (handRecords rules bundle (length row)) _ row (records-tells rules bundle row row′ r p .refused low)
 
   row-writes : (row : List Record) (out out′ : List ℕ) (r : DzyLength) → WriteRecords rules row out r out′ → Refused (r .refused) → out′ ≡ out
   row-writes row out out′ r p low = p .memory ∙ no-bytes (writeRow rules (length out) row) _ out (write-records-tells rules row out out′ r p .refused low)

@@ -7,4 +7,3 @@ pub mod FirstDemand
 pub mod ReaderYields
 pub mod RoundTrips
 pub mod ThirdDemand
-pub mod Written

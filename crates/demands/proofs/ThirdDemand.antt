@@ -11,6 +11,7 @@ use native.Mathlib.Omega.{arith}
 use borrow.Author.Tests.{ltb-true, lt-ltb}
 use Rattle.number.specs.Answer.{over}
 use Rattle.number.specs.Answer.Answer.{gives}
+use Rattle.number.proofs.Laid.{laid-taken}
 use Rattle.number.proofs.Answers.{over-given}
 use Rattle.site.specs.Codes.{conceptOf, roleOf}
 use Rattle.site.specs.declared.fact.Fact.{Fact}
@@ -35,7 +36,6 @@ use Rattle.demands.specs.Demands.{Done, BothRead, site, KeptFacts, FactB
 use Rattle.demands.specs.Said.{Numbered}
 use Rattle.demands.proofs.BySteps.{getD-any, those-once, kept-those}
 use Rattle.demands.proofs.Computed.{tables, decided, ask-is, has-is, joins-is, mark-is, partner-is, write-kept-is}
-use Rattle.demands.proofs.Written.{laid-taken}
 
 -- yes is seen exactly if some kept fact supports the question
 yes-seen : (b : Bool) (n : ℕ) → (shownReply (cond b (yes-by n) none) .yes ≡ 1) ↔ (b ≡ true)
