@@ -1,17 +1,11 @@
 pub mod Accepted
-pub mod AtLimits
 pub mod Cases
-pub mod FactBytes
-pub mod Faults
 pub mod Left
 pub mod Longest
 pub mod OfOpened
 pub mod OneAnswer
-pub mod Pushing
 pub mod Reading
 pub mod Refusals
 pub mod RoundTrips
 pub mod Runs
-pub mod Storing
 pub mod SubLawful
-pub mod TwoPasses

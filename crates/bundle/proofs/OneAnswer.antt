@@ -5,12 +5,11 @@ use mathlib.Core.Bool.{Bool}
 use mathlib.Core.List.{List}
 use Rattle.number.specs.Answer.{Answer, Read}
 use Rattle.number.specs.Answer.Answer.{gives, refuses}
-use Rattle.number.proofs.One.{one, undone, Same}
+use Rattle.number.proofs.One.{one, undone}
 use Rattle.site.specs.declared.fact.Fact.{Fact}
 use Rattle.rules.specs.declared.head.Head.{Head}
 use Rattle.bundle.specs.Bundle.{factAt, checkBundle}
 use Rattle.bundle.specs.Opened.{opening, openedTold}
-use Rattle.bundle.specs.Pushed.{Pushes, wroteTold, answerOf}
 use Rattle.bundle.specs.Told.{factTold, bundleTold}
 use Rattle.bundle.specs.declared.facts.Facts.{Facts}
 use Rattle.bundle.specs.declared.one.FactRead.{FactRead}
@@ -20,9 +19,6 @@ use Rattle.bundle.specs.declared.check.BundleRead.the-variants.{Accepted
 use Rattle.bundle.specs.declared.open.Inputs.{Inputs}
 use Rattle.bundle.specs.declared.open.Opened.{Opened}
 use Rattle.bundle.specs.declared.open.Opened.the-variants.{Accepted as BothRead, Refused as NotRead}
-use Rattle.bundle.specs.declared.writing.Writing.{Writing}
-use Rattle.bundle.specs.declared.writing.BundleWrote.{BundleWrote}
-use Rattle.bundle.specs.declared.writing.BundleWrote.the-variants.{Written, Refused}
 
 fact-back : Answer (Read Fact) → FactRead
 fact-back (gives r) = ReadFact (r .value) (r .next)
@@ -48,14 +44,6 @@ pub opened-told-apart : (r r′ : Opened) → openedTold r ≡ openedTold r′ �
 unfolding opened-back
 opened-told-apart = undone openedTold opened-back (elim [ BothRead i ↦ refl | NotRead r ↦ refl ])
 
-wrote-back : Answer ℕ → BundleWrote
-wrote-back (gives n) = Written n
-wrote-back (refuses r) = Refused r
-
-pub wrote-told-apart : (r r′ : BundleWrote) → wroteTold r ≡ wroteTold r′ → r ≡ r′
-unfolding wrote-back
-wrote-told-apart = undone wroteTold wrote-back (elim [ Written n ↦ refl | Refused r ↦ refl ])
-
 -- reading leaves one answer
 pub one-fact : (known : ℕ → Bool) (s : List ℕ) (at : ℕ) (r r′ : FactRead) → factTold r ≡ factAt known s at → factTold r′ ≡ factAt known s at → r ≡ r′
 one-fact known s at r r′ e e′ = fact-told-apart r r′ (one e e′)
@@ -65,11 +53,3 @@ one-bundle h s r r′ e e′ = bundle-told-apart r r′ (one e e′)
 
 pub one-opening : (rules bundle : List ℕ) (r r′ : Opened) → openedTold r ≡ opening rules bundle → openedTold r′ ≡ opening rules bundle → r ≡ r′
 one-opening rules bundle r r′ e e′ = opened-told-apart r r′ (one e e′)
-
--- and so does writing, of the answer and of the lent memory
-pub one-answer : (w : Writing) (r r′ : BundleWrote) → wroteTold r ≡ answerOf w → wroteTold r′ ≡ answerOf w → r ≡ r′
-one-answer w r r′ e e′ = wrote-told-apart r r′ (one e e′)
-
-pub one-push : (h : Head) (out : List ℕ) (w : Writing) (f : Fact) (r r₂ : Writing) (out′ out₂′ : List ℕ) → Pushes h out w f r out′ → Pushes h out w f r₂ out₂′
-    → Same r r₂ out′ out₂′
-one-push h out w f r r₂ out′ out₂′ p p₂ = record { answer = one (p .state) (p₂ .state); memory = one (p .memory) (p₂ .memory) }

@@ -12,13 +12,13 @@ use Rattle.site.specs.Lists.{upTo, any, count, keep, first, each}
 use Rattle.site.specs.Items.{countAt, codeAt, endAt}
 use Rattle.rules.specs.RuleFile.{headOf, codeDeclared, ruleAt, rulesFrom, rulesIn, unbroken, afterRules, checkRules, siteOf}
 use Rattle.bundle.specs.Bundle.{factAt, factsFrom, factsIn, checkBundle, readBundle, factBytes, bundleOf}
-use Rattle.bundle.specs.Records.{roomFor}
-use Rattle.follows.specs.Tables.{rolesOf, nodesOf, arrow, mates, find, rowsOf, looked, through, closure, apart, empty, excludes, functionalIn, excludedRows, followsFrom, followsOf}
-use Rattle.clean.specs.Types.{typesOf}
-use Rattle.clean.specs.Marks.{jar, split, meet, alone, contradict, clash, mark, partner, marks, partners, marked, counts, kept, supports, support}
+use Rattle.writer.specs.Records.{roomFor}
+use Rattle.steps.specs.Tables.{rolesOf, nodesOf, arrow, mates, find, rowsOf, looked, through, closure, apart, empty, excludes, functionalIn, excludedRows, followsFrom, followsOf}
+use Rattle.clashes.specs.Types.{typesOf}
+use Rattle.clashes.specs.Marks.{jar, split, meet, alone, contradict, clash, mark, partner, marks, partners, marked, counts, kept, supports, support}
 use Rattle.clean.specs.Operations.{given, roomForMarks, marking, counting, replyOf, having, joining, keeping, Reply}
 use Rattle.clean.specs.Operations.Reply.{yes-by, none}
-use Rattle.clean.specs.declared.answers.Counts.{Counts}
+use Rattle.clashes.specs.declared.answers.Counts.{Counts}
 
 -- a case: bytes, and what document 01 says of them
 pub data Case : Type 0 where

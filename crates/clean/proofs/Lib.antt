@@ -1,16 +1,7 @@
-pub mod OfTypes
-pub mod OfClash
-pub mod OfMarks
-pub mod OfPartners
-pub mod OfAnswers
-pub mod OfKept
 pub mod Cases
-pub mod OfTests
-pub mod OfAgreement
 pub mod OfAsking
 pub mod OfJudging
 pub mod OfKeeping
 pub mod OfRows
 pub mod OfSearch
-pub mod OfTypeCodes
 pub mod OfWalks

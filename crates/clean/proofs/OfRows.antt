@@ -24,26 +24,13 @@ use Rattle.bundle.specs.Told.{factTold}
 use Rattle.bundle.specs.declared.facts.Facts.{Facts}
 use Rattle.bundle.specs.declared.one.FactRead.{FactRead}
 use Rattle.bundle.specs.declared.one.FactRead.the-variants.{Read as ReadFact, Refused as NoFact}
-use Rattle.follows.specs.Tables.{Follows}
-use Rattle.clean.specs.Types.{itself}
-use Rattle.clean.specs.Marks.{alone, clash, mark, partner, marks, partners, marked, counts}
-use Rattle.clean.specs.Tally.{noCounts, oneIf, OneIf, tallied, Small, Marks}
-use Rattle.clean.specs.declared.answers.Counts.{Counts}
-use Rattle.clean.specs.declared.answers.Judged.{Judged}
+use Rattle.steps.specs.Tables.{Follows}
+use Rattle.clashes.specs.Types.{itself}
+use Rattle.clashes.specs.Marks.{alone, clash, mark, partner, marks, partners, marked, counts}
+use Rattle.clashes.specs.Tally.{noCounts, oneIf, OneIf, tallied, Small, Marks}
+use Rattle.clashes.specs.declared.answers.Counts.{Counts}
+use Rattle.clashes.specs.declared.answers.Judged.{Judged}
 use Rattle.bundle.proofs.Left.{none-left, facts-stop, facts-more, facts-few}
-
--- one mark
-pub one-is : (mark wanted : ℕ) → mark ≡ wanted → OneIf mark wanted 1
-unfolding oneIf
-one-is mark wanted e = record { is = rw (eq-eqb mark wanted e); small = omega arith }
-
-pub one-not : (mark wanted : ℕ) → (mark ≡ wanted → ⊥) → OneIf mark wanted 0
-unfolding oneIf
-one-not mark wanted h = record { is = rw (ne-eqb mark wanted h); small = omega arith }
-
-pub tally-is : (c : Counts) (m a b d : ℕ) → OneIf m 0 a → OneIf m 1 b → OneIf m 2 d
-    → _≡_ {A = Counts} (record { facts = c .facts + 1; kept = c .kept + a; alone = c .alone + b; disputed = c .disputed + d }) (tallied c m)
-tally-is c m a b d x y z = rw (x .is, y .is, z .is)
 
 -- the counts of facts that are left, upon counts so far
 module _ (t : Follows) (whole : List Fact) where
@@ -226,4 +213,4 @@ module _ (t : Follows) where
             }
 
 pub ruleset rows =
-    (one-is, one-not, tally-is, tally-start, tally-ends, tally-small, tally-stops, tally-on, mark-fits, row-partner-fits, marking-start, marking-row-long, marking-pair-long, marking-ends, marking-small, marking-in-row, marking-in-pair, marking-in-pair₀, marking-stops, marking-on, needs)
+    (tally-start, tally-ends, tally-small, tally-stops, tally-on, mark-fits, row-partner-fits, marking-start, marking-row-long, marking-pair-long, marking-ends, marking-small, marking-in-row, marking-in-pair, marking-in-pair₀, marking-stops, marking-on, needs)

@@ -12,9 +12,9 @@ use Rattle.bundle.specs.Bundle.{factAt}
 use Rattle.bundle.specs.Told.{factTold}
 use Rattle.bundle.specs.declared.one.FactRead.{FactRead}
 use Rattle.bundle.specs.declared.one.FactRead.the-variants.{Read as ReadFact, Refused as NoFact}
-use Rattle.clean.specs.Types.{itself}
-use Rattle.clean.specs.Marks.{jar, meet, alone, contradict, clash, partner}
-use Rattle.clean.specs.Coded.{bitsFollow}
+use Rattle.clashes.specs.Types.{itself}
+use Rattle.clashes.specs.Marks.{jar, meet, alone, contradict, clash, partner}
+use Rattle.clashes.specs.Coded.{bitsFollow}
 use Rattle.clean.proofs.OfWalks.{Seeking, seek-start, seek-ends, seek-stops, seek-found, seek-on}
 
 -- what is alone does not hang on the functional roles

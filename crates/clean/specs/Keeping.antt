@@ -9,10 +9,10 @@ use Rattle.site.specs.declared.fact.Fact.{Fact}
 use Rattle.site.specs.Limits.{mostFacts}
 use Rattle.site.specs.Lists.{each}
 use Rattle.bundle.specs.Bundle.{factBytes}
-use Rattle.bundle.specs.Pushed.{StoresFact}
-use Rattle.follows.specs.Tables.{Follows}
-use Rattle.clean.specs.Types.{itself}
-use Rattle.clean.specs.Marks.{kept}
+use Rattle.writer.specs.Pushed.{StoresFact}
+use Rattle.steps.specs.Tables.{Follows}
+use Rattle.clashes.specs.Types.{itself}
+use Rattle.clashes.specs.Marks.{kept}
 use Rattle.clean.specs.declared.keep.Measure.{Measure}
 
 -- the bytes of the kept facts, after their count

@@ -1,6 +1,2 @@
-pub mod Coded
 pub mod Keeping
-pub mod Marks
 pub mod Operations
-pub mod Tally
-pub mod Types

@@ -13,12 +13,12 @@ use Rattle.site.specs.Limits.{mostThing}
 use Rattle.rules.specs.declared.head.Head.{Head}
 use Rattle.rules.specs.RuleFile.{checkRules, siteOf}
 use Rattle.bundle.specs.Bundle.{readBundle, bundleOf}
-use Rattle.bundle.specs.Records.{roomFor}
-use Rattle.follows.specs.Tables.{Follows, followsOf}
-use Rattle.clean.specs.Types.{Typ, typ, itself}
-use Rattle.clean.specs.Marks.{mark, partner, marks, partners, counts, kept, support}
-use Rattle.clean.specs.declared.answers.Counts.{Counts}
-use Rattle.clean.specs.declared.answers.Judged.{Judged}
+use Rattle.writer.specs.Records.{roomFor}
+use Rattle.steps.specs.Tables.{Follows, followsOf}
+use Rattle.clashes.specs.Types.{Typ, typ, itself}
+use Rattle.clashes.specs.Marks.{mark, partner, marks, partners, counts, kept, support}
+use Rattle.clashes.specs.declared.answers.Counts.{Counts}
+use Rattle.clashes.specs.declared.answers.Judged.{Judged}
 
 -- what the rules and the bundle give, or their refusal
 unfoldable pub given : {A : Type 0} → List ℕ → List ℕ → (Head → Follows → List Fact → Answer A) → Answer A

@@ -6,19 +6,19 @@ ghost use Prim.Native.Nat.{_+_, _≤_};
 ghost use lib.ListN.{length};
 ghost use Rattle.site.specs.Limits.{mostFacts};
 ghost use Rattle.bundle.specs.Bundle.{factsOf};
-ghost use Rattle.clean.specs.Types.{itself};
-ghost use Rattle.clean.specs.Marks.{marked};
+ghost use Rattle.clashes.specs.Types.{itself};
+ghost use Rattle.clashes.specs.Marks.{marked};
 ghost use Rattle.clean.specs.Keeping.{keptBytes, measureOf, measuredWith, SmallMeasure, StoresIf, StoredIf, StoredKept};
-ghost use Rattle.clean.specs.Coded.{bitsFollow};
-use crate::answers::Judged;
+ghost use Rattle.clashes.specs.Coded.{bitsFollow};
 use crate::verdict::judge;
 use bundle::FactRead;
 use bundle::Facts;
 use bundle::any_fact_at;
-use bundle::fact_size;
-use bundle::write_fact;
-use follows::Table;
+use clashes::Judged;
 use site::Fact;
+use tables::Table;
+use writer::fact_size;
+use writer::write_fact;
 
 // How many facts are kept, and how many bytes they have.
 pub struct Measure {

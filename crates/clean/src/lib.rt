@@ -1,16 +1,11 @@
 // Cleaning the facts of a bundle by tables of what follows: marks, partners, counts, one fact, support for a question, and the kept facts.
-mod answers;
-mod clash;
 mod keep;
 mod pick;
 mod row;
 mod search;
 mod support;
-mod types;
 mod verdict;
 
-pub use answers::Counts;
-pub use answers::Judged;
 pub use keep::Measure;
 pub use keep::measure_kept;
 pub use keep::store_kept;
@@ -18,5 +13,4 @@ pub use pick::fact_number;
 pub use row::count_facts;
 pub use row::mark_facts;
 pub use support::lowest_support;
-pub use types::Typ;
 pub use verdict::judge;

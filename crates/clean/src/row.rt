@@ -5,16 +5,16 @@ ghost use Prim.Native.Nat.{_≤_};
 ghost use lib.ListN.{length};
 ghost use Rattle.site.specs.Limits.{mostFacts};
 ghost use Rattle.bundle.specs.Bundle.{factsOf};
-ghost use Rattle.clean.specs.Types.{itself};
-ghost use Rattle.clean.specs.Marks.{counts};
-ghost use Rattle.clean.specs.Tally.{Marks};
-ghost use Rattle.clean.specs.Coded.{bitsFollow};
-use crate::answers::Counts;
+ghost use Rattle.clashes.specs.Types.{itself};
+ghost use Rattle.clashes.specs.Marks.{counts};
+ghost use Rattle.clashes.specs.Tally.{Marks};
+ghost use Rattle.clashes.specs.Coded.{bitsFollow};
 use crate::verdict::judge;
 use bundle::FactRead;
 use bundle::Facts;
 use bundle::any_fact_at;
-use follows::Table;
+use clashes::Counts;
+use tables::Table;
 
 // "each the number of facts with that property"
 pub fn count_facts(bundle: &[u8], facts: Facts, excluded: &Table, functional: u64) -> Counts

@@ -3,16 +3,16 @@ ghost use mathlib.Core.Path.{_≡_};
 ghost use mathlib.Core.List.{[]};
 ghost use mathlib.Core.Bool.{_&&_, not};
 ghost use Rattle.bundle.specs.Bundle.{factsOf};
-ghost use Rattle.clean.specs.Types.{itself};
-ghost use Rattle.clean.specs.Marks.{alone, contradict, partner};
-ghost use Rattle.clean.specs.Coded.{bitsFollow};
-use crate::clash::do_contradict;
-use crate::clash::is_alone;
+ghost use Rattle.clashes.specs.Types.{itself};
+ghost use Rattle.clashes.specs.Marks.{alone, contradict, partner};
+ghost use Rattle.clashes.specs.Coded.{bitsFollow};
 use bundle::FactRead;
 use bundle::Facts;
 use bundle::any_fact_at;
-use follows::Table;
+use clashes::do_contradict;
+use clashes::is_alone;
 use site::Fact;
+use tables::Table;
 
 // A fact that is not alone and contradicts another.
 fn disputes(excluded: &Table, functional: u64, f: Fact, g: Fact) -> bool

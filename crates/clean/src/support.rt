@@ -5,23 +5,23 @@ ghost use mathlib.Core.List.{[]};
 ghost use Prim.Native.Nat.{_≤_};
 ghost use Rattle.site.specs.Limits.{mostFacts};
 ghost use Rattle.bundle.specs.Bundle.{factsOf};
-ghost use Rattle.clean.specs.Types.{itself};
-ghost use Rattle.clean.specs.Marks.{marked};
-ghost use Rattle.clean.specs.Coded.{bitsFollow, supportsCoded, supportIn};
-use crate::answers::Judged;
-use crate::clash::related;
-use crate::types::Typ;
-use crate::types::back_partner_type;
-use crate::types::back_role_type;
-use crate::types::concept_type;
-use crate::types::partner_type;
-use crate::types::role_type;
+ghost use Rattle.clashes.specs.Types.{itself};
+ghost use Rattle.clashes.specs.Marks.{marked};
+ghost use Rattle.clashes.specs.Coded.{bitsFollow, supportsCoded, supportIn};
 use crate::verdict::judge;
 use bundle::FactRead;
 use bundle::Facts;
 use bundle::any_fact_at;
-use follows::Table;
+use clashes::Judged;
+use clashes::Typ;
+use clashes::back_partner_type;
+use clashes::back_role_type;
+use clashes::concept_type;
+use clashes::partner_type;
+use clashes::related;
+use clashes::role_type;
 use site::Fact;
+use tables::Table;
 
 // "one of whose types, at a or at the pair, is included in the asked code"
 fn supports(included: &Table, asked: Typ, f: Fact) -> bool

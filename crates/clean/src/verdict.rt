@@ -4,15 +4,15 @@ ghost use mathlib.Core.List.{[]};
 ghost use Prim.Native.Nat.{_≤_};
 ghost use Rattle.site.specs.Limits.{mostFacts};
 ghost use Rattle.bundle.specs.Bundle.{factsOf};
-ghost use Rattle.clean.specs.Types.{itself};
-ghost use Rattle.clean.specs.Marks.{mark, partner};
-ghost use Rattle.clean.specs.Coded.{bitsFollow};
-use crate::answers::Judged;
-use crate::clash::is_alone;
+ghost use Rattle.clashes.specs.Types.{itself};
+ghost use Rattle.clashes.specs.Marks.{mark, partner};
+ghost use Rattle.clashes.specs.Coded.{bitsFollow};
 use crate::search::lowest_clash;
 use bundle::Facts;
-use follows::Table;
+use clashes::Judged;
+use clashes::is_alone;
 use site::Fact;
+use tables::Table;
 
 pub fn judge(bundle: &[u8], facts: Facts, excluded: &Table, functional: u64, f: Fact) -> Judged
     requires { ⌜ facts .count ≤ mostFacts ⌝ }

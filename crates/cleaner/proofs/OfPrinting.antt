@@ -16,9 +16,9 @@ use Rattle.site.specs.declared.fact.Fact.{Fact}
 use Rattle.rules.specs.declared.head.Head.{Head}
 use Rattle.rules.specs.RuleFile.{checkRules, siteOf}
 use Rattle.bundle.specs.Bundle.{readBundle}
-use Rattle.follows.specs.Tables.{Follows, followsOf}
-use Rattle.clean.specs.Types.{itself}
-use Rattle.clean.specs.Marks.{marks, partners, counts}
+use Rattle.steps.specs.Tables.{Follows, followsOf}
+use Rattle.clashes.specs.Types.{itself}
+use Rattle.clashes.specs.Marks.{marks, partners, counts}
 use Rattle.clean.specs.Operations.{Marked, given, roomForMarks, marking}
 use Rattle.operations.specs.Promises.{countedTold, MarksAll}
 use Rattle.operations.specs.declared.mark.Counted.{Counted}

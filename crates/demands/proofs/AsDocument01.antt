@@ -13,11 +13,11 @@ use Rattle.number.specs.Answer.Answer.{gives}
 use Rattle.site.specs.declared.fact.Fact.{Fact}
 use Rattle.site.proofs.Lists.{true-not-false}
 use Rattle.bundle.specs.Bundle.{bundleOf}
-use Rattle.clean.specs.Types.{itself, Typ}
-use Rattle.clean.specs.Marks.{mark, partner, counts, kept, support}
+use Rattle.clashes.specs.Types.{itself, Typ}
+use Rattle.clashes.specs.Marks.{mark, partner, counts, kept, support}
 use Rattle.clean.specs.Operations.{replyOf}
 use Rattle.clean.specs.Operations.Reply.{yes-by, none}
-use Rattle.clean.proofs.OfMarks.{marks-add-up}
+use Rattle.clashes.proofs.OfMarks.{marks-add-up}
 use Rattle.dzyunagor.specs.Promises.{Mark, Ask, WriteKept}
 use Rattle.dzyunagor.specs.Shown.{shownCounts, shownAsked, shownReply, shownLength}
 use Rattle.dzyunagor.specs.declared.shapes.DzyCounts.{DzyCounts}

@@ -16,15 +16,15 @@ use Rattle.site.specs.Limits.{noPartner}
 use Rattle.site.specs.Lists.{any, count, keep}
 use Rattle.site.proofs.Lists.{any-found, any-of, and-left, and-right, and-both, or-cases, or-left, or-right, either, is-false, true-not-false, length-keep}
 use Rattle.site.proofs.Same.{same-node, same-role-refl}
-use Rattle.follows.specs.Tables.{Follows}
-use Rattle.follows.specs.Decides.{Decides}
-use Rattle.clean.specs.Types.{Typ, typ, typesOf}
-use Rattle.clean.specs.Marks.{samePlace, jar, functionalNode, split, meet, alone, contradict, clash, supports, mark, partner, marked, counts, kept, support}
-use Rattle.clean.proofs.OfClash.{clash-is}
-use Rattle.clean.proofs.OfMarks.{MarkOf, mark-of}
-use Rattle.clean.proofs.OfMarks.MarkOf.{is-kept, is-alone, is-disputed}
-use Rattle.clean.proofs.OfPartners.{no-partner, lowest-clash}
-use Rattle.clean.proofs.OfAnswers.{supported, support-of}
+use Rattle.steps.specs.Tables.{Follows}
+use Rattle.steps.specs.Decides.{Decides}
+use Rattle.clashes.specs.Types.{Typ, typ, typesOf}
+use Rattle.clashes.specs.Marks.{samePlace, jar, functionalNode, split, meet, alone, contradict, clash, supports, mark, partner, marked, counts, kept, support}
+use Rattle.clashes.proofs.OfClash.{clash-is}
+use Rattle.clashes.proofs.OfMarks.{MarkOf, mark-of}
+use Rattle.clashes.proofs.OfMarks.MarkOf.{is-kept, is-alone, is-disputed}
+use Rattle.clashes.proofs.OfPartners.{no-partner, lowest-clash}
+use Rattle.clashes.proofs.OfAnswers.{supported, support-of}
 use Rattle.demands.specs.Said.{Numbered, Those, HowMany, Jars, Splits, Alone, Clash, Supports, Disputed, Kept, MarkIs, LowestClash, PartnerIs, LowestSupport}
 use Rattle.demands.specs.Said.Those.{none, this, not-this}
 use Rattle.demands.specs.Said.MarkIs.{kept as kept-so, alone as alone-so, disputed as disputed-so}

@@ -20,21 +20,21 @@ use Rattle.site.proofs.Lists.{and-left, and-right}
 use Rattle.rules.specs.declared.head.Head.{Head}
 use Rattle.rules.proofs.AcceptedFile.{accepted-lawful}
 use Rattle.bundle.specs.Bundle.{bundleOf}
-use Rattle.bundle.specs.Records.{roomFor}
-use Rattle.follows.specs.Decides.{Decides}
-use Rattle.follows.specs.Tables.{Follows, followsOf}
-use Rattle.follows.proofs.Decided.{decides}
-use Rattle.clean.specs.Types.{itself, Typ, typ}
-use Rattle.clean.specs.Marks.{mark, marks, partner, partners, counts, kept}
+use Rattle.writer.specs.Records.{roomFor}
+use Rattle.steps.specs.Decides.{Decides}
+use Rattle.steps.specs.Tables.{Follows, followsOf}
+use Rattle.steps.proofs.Decided.{decides}
+use Rattle.clashes.specs.Types.{itself, Typ, typ}
+use Rattle.clashes.specs.Marks.{mark, marks, partner, partners, counts, kept}
 use Rattle.clean.specs.Operations.{given, roomForMarks, Marked, marking, counting, asking, Reply, replyOf, thingKnown, having, joining, keeping}
-use Rattle.clean.specs.declared.answers.Judged.{Judged}
+use Rattle.clashes.specs.declared.answers.Judged.{Judged}
 use Rattle.dzyunagor.specs.Promises.{Mark, Count, Ask, Has, Joins, WriteKept}
 use Rattle.dzyunagor.specs.Shown.{shownCounts, shownAsked, shownReply, shownAnswer, shownLength}
 use Rattle.dzyunagor.specs.declared.shapes.DzyCounts.{DzyCounts}
 use Rattle.dzyunagor.specs.declared.shapes.DzyAsked.{DzyAsked}
 use Rattle.dzyunagor.specs.declared.shapes.DzyAnswer.{DzyAnswer}
 use Rattle.dzyunagor.specs.declared.shapes.DzyLength.{DzyLength}
-use Rattle.dzyunagor.proofs.NeverZero.{mark-tells, has-tells, joins-tells, write-kept-tells}
+use Rattle.promises.proofs.NeverZero.{mark-tells, has-tells, joins-tells, write-kept-tells}
 use Rattle.demands.specs.Demands.{Done, BothRead, site}
 use Rattle.demands.specs.Said.{Numbered}
 

@@ -17,14 +17,14 @@ use Rattle.site.specs.Limits.{mostThing}
 use Rattle.site.specs.declared.fact.Fact.{Fact}
 use Rattle.bundle.specs.Bundle.{factsOf, checkBundle, readBundle, bundleOf}
 use Rattle.bundle.specs.Opened.{opening}
-use Rattle.bundle.specs.Records.{roomFor}
+use Rattle.writer.specs.Records.{roomFor}
 use Rattle.bundle.specs.declared.facts.Facts.{Facts}
 use Rattle.bundle.proofs.Accepted.{accepted-count}
 use Rattle.records.specs.Rows.{recordOf, handOut, handRecords}
 use Rattle.records.specs.declared.record.Record.{Record}
 use Rattle.records.proofs.OfReader.{starts}
-use Rattle.clean.specs.Types.{itself, typ}
-use Rattle.clean.specs.Marks.{kept}
+use Rattle.clashes.specs.Types.{itself, typ}
+use Rattle.clashes.specs.Marks.{kept}
 use Rattle.clean.specs.Operations.{roomForMarks, Marked, Reply, thingKnown, replyOf}
 use Rattle.clean.specs.Operations.Reply.{yes-by, none}
 use Rattle.dzyunagor.specs.Promises.{Mark, Count, Ask, Has, Joins, WriteKept, Records, ReaderStart}

@@ -33,8 +33,8 @@ use Rattle.dzyunagor.specs.Shown.{refused, shownLength}
 use Rattle.dzyunagor.specs.declared.shapes.DzyCounts.{DzyCounts}
 use Rattle.dzyunagor.specs.declared.shapes.DzyLength.{DzyLength}
 use Rattle.dzyunagor.specs.declared.shapes.DzyYield.{DzyYield}
-use Rattle.dzyunagor.proofs.OneAnswer.{one-check-rules, one-check-bundle, one-mark, one-count, one-ask, one-has, one-joins, one-write-kept, one-records, one-write-records, one-reader-start, one-reader-next}
-use Rattle.dzyunagor.proofs.NeverZero.{check-bundle-tells, mark-tells, write-kept-tells, records-tells, write-records-tells, reader-next-tells}
+use Rattle.promises.proofs.OneAnswer.{one-check-rules, one-check-bundle, one-mark, one-count, one-ask, one-has, one-joins, one-write-kept, one-records, one-write-records, one-reader-start, one-reader-next}
+use Rattle.promises.proofs.NeverZero.{check-bundle-tells, mark-tells, write-kept-tells, records-tells, write-records-tells, reader-next-tells}
 use Rattle.demands.specs.Demands.{Done, Refused, BothRead, OneAnswer, WritesNothing, OverLimits}
 
 pub one-answer : (rules bundle : List ℕ) → OneAnswer rules bundle

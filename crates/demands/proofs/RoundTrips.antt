@@ -16,7 +16,7 @@ use Rattle.number.proofs.Laws.{Bytes}
 use Rattle.rules.specs.RuleFile.{checkRules}
 use Rattle.bundle.specs.Bundle.{factsOf, bundleOf}
 use Rattle.bundle.specs.Bundle.Last.{none}
-use Rattle.bundle.specs.Records.{roomFor, recordsFrom, planRecords}
+use Rattle.writer.specs.Records.{roomFor, recordsFrom, planRecords}
 use Rattle.bundle.proofs.RoundTrips.{written-read, read-again}
 use Rattle.records.specs.Rows.{recordOf, factOf, handOut, handRecords, writeRow}
 use Rattle.records.specs.declared.record.Record.{Record}
@@ -25,7 +25,7 @@ use Rattle.records.proofs.OfRows.{out-and-back, in-and-out}
 use Rattle.dzyunagor.specs.Promises.{Records, WriteRecords}
 use Rattle.dzyunagor.specs.Shown.{shownLength}
 use Rattle.dzyunagor.specs.declared.shapes.DzyLength.{DzyLength}
-use Rattle.dzyunagor.proofs.NeverZero.{records-tells, write-records-tells}
+use Rattle.promises.proofs.NeverZero.{records-tells, write-records-tells}
 use Rattle.demands.specs.Demands.{Done, RoundTrips}
 
 -- records handed out fit the row: its front, and the answer's length

@@ -17,9 +17,9 @@ use Rattle.site.specs.Codes.{conceptOf, roleOf}
 use Rattle.site.specs.declared.fact.Fact.{Fact}
 use Rattle.site.proofs.Lists.{getD-within}
 use Rattle.bundle.specs.Bundle.{factsOf, checkBundle, readBundle, bundleOf}
-use Rattle.follows.specs.Tables.{Follows, followsOf}
-use Rattle.clean.specs.Types.{itself, Typ}
-use Rattle.clean.specs.Marks.{mark, partner, kept, support}
+use Rattle.steps.specs.Tables.{Follows, followsOf}
+use Rattle.clashes.specs.Types.{itself, Typ}
+use Rattle.clashes.specs.Marks.{mark, partner, kept, support}
 use Rattle.clean.specs.Operations.{replyOf}
 use Rattle.clean.specs.Operations.Reply.{yes-by, none}
 use Rattle.operations.proofs.OfKeptAgain.{kept-reads}

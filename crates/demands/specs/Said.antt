@@ -10,8 +10,8 @@ use Rattle.site.specs.Kinds.{BasicRole, Site}
 use Rattle.site.specs.Kinds.Node.{role}
 use Rattle.site.specs.Kinds.Rule.{functional}
 use Rattle.site.specs.Limits.{noPartner}
-use Rattle.follows.specs.Steps.{Included, Excluded}
-use Rattle.clean.specs.Types.{Typ, typ, typesOf}
+use Rattle.steps.specs.Steps.{Included, Excluded}
+use Rattle.clashes.specs.Types.{Typ, typ, typesOf}
 
 -- "Rules, facts, records and lines are numbered from 0."
 pub record Numbered (facts : List Fact) (k : ℕ) (f : Fact) : Type 0 where

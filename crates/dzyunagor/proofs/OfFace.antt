@@ -10,12 +10,12 @@ use Rattle.rules.specs.Told.{rulesTold}
 use Rattle.rules.specs.declared.head.Head.{Head}
 use Rattle.rules.specs.declared.check.RulesRead.{RulesRead}
 use Rattle.rules.specs.declared.check.RulesRead.the-variants.{Accepted as RulesAccepted, Refused as RulesRefused}
-use Rattle.bundle.specs.Pushed.{wroteTold}
-use Rattle.bundle.specs.declared.writing.BundleWrote.{BundleWrote}
-use Rattle.bundle.specs.declared.writing.BundleWrote.the-variants.{Written, Refused as NotWritten}
+use Rattle.writer.specs.Pushed.{wroteTold}
+use Rattle.writer.specs.declared.writing.BundleWrote.{BundleWrote}
+use Rattle.writer.specs.declared.writing.BundleWrote.the-variants.{Written, Refused as NotWritten}
 use Rattle.clean.specs.Operations.{counting, asking, having, joining}
-use Rattle.clean.specs.declared.answers.Counts.{Counts}
-use Rattle.clean.specs.declared.answers.Judged.{Judged}
+use Rattle.clashes.specs.declared.answers.Counts.{Counts}
+use Rattle.clashes.specs.declared.answers.Judged.{Judged}
 use Rattle.bundle.specs.Opened.{opening, openedTold}
 use Rattle.operations.specs.Promises.{countedTold, askedTold, repliedTold, MarksAll, WritesKept}
 use Rattle.bundle.specs.declared.open.Inputs.{Inputs}

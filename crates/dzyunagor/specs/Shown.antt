@@ -6,8 +6,8 @@ use Rattle.number.specs.Answer.Answer.{gives, refuses}
 use Rattle.number.specs.declared.refusal.Refusal.{Refusal}
 use Rattle.clean.specs.Operations.{Reply}
 use Rattle.clean.specs.Operations.Reply.{yes-by, none}
-use Rattle.clean.specs.declared.answers.Counts.{Counts}
-use Rattle.clean.specs.declared.answers.Judged.{Judged}
+use Rattle.clashes.specs.declared.answers.Counts.{Counts}
+use Rattle.clashes.specs.declared.answers.Judged.{Judged}
 use Rattle.records.specs.Reading.{Found}
 use Rattle.records.specs.Reading.Found.{fact, done}
 use Rattle.records.specs.Rows.{recordOf}

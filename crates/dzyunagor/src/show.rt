@@ -1,6 +1,6 @@
 // An answer turned into the struct that C sees.
 ghost use mathlib.Core.Path.{_≡_};
-ghost use Rattle.bundle.specs.Pushed.{wroteTold};
+ghost use Rattle.writer.specs.Pushed.{wroteTold};
 ghost use Rattle.operations.specs.Promises.{countedTold, askedTold, repliedTold};
 ghost use Rattle.records.specs.Told.{startTold, yieldTold};
 ghost use Rattle.dzyunagor.specs.Shown.{shownCounts, shownAsked, shownAnswer, shownLength, shownRow, shownStart, shownYield, noRecord};
@@ -13,7 +13,6 @@ use crate::shapes::DzyStart;
 use crate::shapes::DzyYield;
 use crate::shapes::is_refused;
 use crate::shapes::not_refused;
-use bundle::BundleWrote;
 use operations::Asked;
 use operations::Counted;
 use operations::Replied;
@@ -21,6 +20,7 @@ use records::Record;
 use records::RowAnswer;
 use records::Started;
 use records::Yield;
+use writer::BundleWrote;
 
 pub fn show_counts(a: Counted) -> DzyCounts
     ensures { λ r. ⌜ r ≡ shownCounts (countedTold a) ⌝ }

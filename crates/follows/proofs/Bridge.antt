@@ -14,25 +14,25 @@ use Rattle.site.specs.Codes.{nodeOf, nodeCode}
 use Rattle.site.specs.Lists.{upTo, each}
 use Rattle.site.proofs.Lists.{each-of, of-each, below-of-upTo, upTo-of-below, or-cases, or-left}
 use Rattle.rules.specs.Lawful.{Lawful}
-use Rattle.follows.specs.Bits.{Has}
-use Rattle.follows.specs.Closed.Closed.{here, one, on}
-use Rattle.follows.specs.Listed.{Listed}
-use Rattle.follows.specs.Passes.{Within, Reach, Closes}
-use Rattle.follows.specs.Lowering.{Order, Even, Meets, Shut, Shuts}
-use Rattle.follows.specs.Lowering.Shut.{apart, void}
-use Rattle.follows.specs.Steps.{Included, Excluded, OneOf}
-use Rattle.follows.specs.Steps.OneOf.{itself, has, has-inverse}
-use Rattle.follows.specs.Tables.{Pair, Relation, arrowsOf, writtenOf, arrow, mates, nodesOf}
+use Rattle.tables.specs.Bits.{Has}
+use Rattle.steps.specs.Closed.Closed.{here, one, on}
+use Rattle.tables.specs.Listed.{Listed}
+use Rattle.tables.specs.Passes.{Within, Reach, Closes}
+use Rattle.exclusions.specs.Lowering.{Order, Even, Meets, Shut, Shuts}
+use Rattle.exclusions.specs.Lowering.Shut.{apart, void}
+use Rattle.steps.specs.Steps.{Included, Excluded, OneOf}
+use Rattle.steps.specs.Steps.OneOf.{itself, has, has-inverse}
+use Rattle.steps.specs.Tables.{Pair, Relation, arrowsOf, writtenOf, arrow, mates, nodesOf}
 use Rattle.follows.specs.Adding.{AddedAll, inBothOrders, exclusionsOf, ring, rings}
 use Rattle.follows.specs.Tells.{Blank}
-use Rattle.follows.proofs.Rows.{On}
-use Rattle.follows.proofs.Closing.{Reaches}
-use Rattle.follows.proofs.Declares.{node-in, node-out}
-use Rattle.follows.proofs.Laws.{Both, included-declared, excluded-declared, declared-one-of}
-use Rattle.follows.proofs.Arrows.{arrow-given, arrow-of, arrow-included, leads-included, included-leads, closed-into}
-use Rattle.follows.proofs.Apart.{Three, of-mates, onward, LeadsOn, Across, Apart, Kept, written-excludes, mates-lead, kept-excluded, excluded-kept}
-use Rattle.follows.proofs.Apart.Across.{straight, crossed}
-use Rattle.follows.proofs.Apart.Kept.{by-written, by-void}
+use Rattle.steps.proofs.Rows.{On}
+use Rattle.steps.proofs.Closing.{Reaches}
+use Rattle.steps.proofs.Declares.{node-in, node-out}
+use Rattle.steps.proofs.Laws.{Both, included-declared, excluded-declared, declared-one-of}
+use Rattle.steps.proofs.Arrows.{arrow-given, arrow-of, arrow-included, leads-included, included-leads, closed-into}
+use Rattle.steps.proofs.Apart.{Three, of-mates, onward, LeadsOn, Across, Apart, Kept, written-excludes, mates-lead, kept-excluded, excluded-kept}
+use Rattle.steps.proofs.Apart.Across.{straight, crossed}
+use Rattle.steps.proofs.Apart.Kept.{by-written, by-void}
 use Rattle.follows.proofs.Numbers.{node-code, code-node, code-listed, listed-declared, declared-listed}
 use Rattle.follows.proofs.Adds.{added-more}
 use Rattle.follows.proofs.FromBlank.{FromPair, from-pair}

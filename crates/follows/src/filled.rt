@@ -1,21 +1,21 @@
 // The tables of a rule file, from its bytes.
 ghost use Rattle.site.specs.Lists.{each};
 ghost use Rattle.rules.specs.RuleFile.{rulesIn, siteOf};
-ghost use Rattle.follows.specs.Bits.{IsTable};
-ghost use Rattle.follows.specs.Tables.{arrowsOf};
+ghost use Rattle.tables.specs.Bits.{IsTable};
+ghost use Rattle.steps.specs.Tables.{arrowsOf};
 ghost use Rattle.follows.specs.Adding.{AddedAll, exclusionsOf};
 ghost use Rattle.follows.specs.Tells.{Blank, FunctionalOf, Tells};
-use crate::bits::BLANK;
-use crate::bits::Table;
-use crate::close::close;
-use crate::exclude::exclude;
 use crate::says::add_arrows;
 use crate::says::add_exclusions;
 use crate::says::add_functional;
 use crate::says::add_rings;
+use exclusions::exclude;
 use rules::Head;
 use rules::RuleRead;
 use rules::rule_at;
+use tables::BLANK;
+use tables::Table;
+use tables::close;
 
 // The arrows of all rules.
 fn arrows_of(s: &[u8], head: Head, t: &mut Table)

@@ -3,16 +3,16 @@ ghost use Rattle.site.specs.Kinds.Node.{concept, role};
 ghost use Rattle.site.specs.Kinds.Rule.{roleIncluded, roleDisjoint, functional};
 ghost use Rattle.site.specs.Codes.{conceptOf, roleOf};
 ghost use Rattle.site.specs.Told.{ruleTold};
-ghost use Rattle.follows.specs.Bits.{IsTable};
-ghost use Rattle.follows.specs.Tables.{arrowsOf};
+ghost use Rattle.tables.specs.Bits.{IsTable};
+ghost use Rattle.steps.specs.Tables.{arrowsOf};
 ghost use Rattle.follows.specs.Adding.{AddedAll, roleArrows, someArrows, inBothOrders, exclusionsOf, ring, rings, FunctionalAdded};
-use crate::bits::Table;
-use crate::bits::add;
 use site::BasicConcept;
 use site::BasicRole;
 use site::Declared;
 use site::Role;
 use site::Rule;
+use tables::Table;
+use tables::add;
 
 // The arrows of q1 in q2 and of their inverses.
 fn add_roles(t: &mut Table, p: BasicRole, q: BasicRole)

@@ -11,11 +11,11 @@ use Rattle.site.specs.Lists.{upTo, any, count, first, each}
 use Rattle.site.specs.Items.{countAt, codeAt, endAt}
 use Rattle.rules.specs.RuleFile.{headOf, codeDeclared, ruleAt, rulesFrom, rulesIn, unbroken, afterRules, checkRules, siteOf}
 use Rattle.bundle.specs.Bundle.{factAt, factsFrom, factsIn, checkBundle, readBundle}
-use Rattle.follows.specs.Tables.{rolesOf, nodesOf, arrow, mates, find, rowsOf, looked, through, closure, apart, empty, excludes, functionalIn, excludedRows, followsFrom, followsOf}
-use Rattle.clean.specs.Types.{typesOf}
-use Rattle.clean.specs.Marks.{jar, split, meet, alone, contradict, clash, mark, partner, marks, partners, marked, counts}
+use Rattle.steps.specs.Tables.{rolesOf, nodesOf, arrow, mates, find, rowsOf, looked, through, closure, apart, empty, excludes, functionalIn, excludedRows, followsFrom, followsOf}
+use Rattle.clashes.specs.Types.{typesOf}
+use Rattle.clashes.specs.Marks.{jar, split, meet, alone, contradict, clash, mark, partner, marks, partners, marked, counts}
 use Rattle.clean.specs.Operations.{given, roomForMarks, marking}
-use Rattle.clean.specs.declared.answers.Counts.{Counts}
+use Rattle.clashes.specs.declared.answers.Counts.{Counts}
 use Rattle.number.specs.declared.refusal.Refusal.{Refusal}
 use Rattle.listing.specs.Decimal.{digitsOf, decimalOf}
 use Rattle.listing.specs.Put.{named}

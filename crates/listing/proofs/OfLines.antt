@@ -9,7 +9,7 @@ use native.Mathlib.Omega.{arith}
 use borrow.Author.Tests.{eq-eqb, ne-eqb}
 use borrow.Author.Needs.{needs}
 use Rattle.number.specs.declared.refusal.Refusal.{Refusal}
-use Rattle.clean.specs.declared.answers.Counts.{Counts}
+use Rattle.clashes.specs.declared.answers.Counts.{Counts}
 use Rattle.listing.specs.Decimal.{decimalOf}
 use Rattle.listing.specs.Put.{Laid, LaidNumber, LaidNamed, named}
 use Rattle.listing.specs.Lines.{factsWord, keptCount, aloneCount, disputedWord, keptWord, aloneWord, refusedWord, rulesWord, bundleWord, newline, countsLine, markOf, factLine, placeOf, refusalLine, LaidMark, LaidPlace, Line}

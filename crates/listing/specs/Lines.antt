@@ -7,7 +7,7 @@ use lib.ListN.{length, take}
 use lib.Seq.{sets}
 use lib.Dec.{eqb}
 use Rattle.number.specs.declared.refusal.Refusal.{Refusal}
-use Rattle.clean.specs.declared.answers.Counts.{Counts}
+use Rattle.clashes.specs.declared.answers.Counts.{Counts}
 use Rattle.listing.specs.Decimal.{decimalOf}
 use Rattle.listing.specs.Put.{Laid, named}
 

@@ -9,7 +9,7 @@ use Rattle.number.specs.Answer.{Answer, over}
 use Rattle.number.specs.Answer.Answer.{gives, refuses}
 use Rattle.site.specs.Limits.{mostFacts}
 use Rattle.clean.specs.Operations.{marking}
-use Rattle.clean.specs.declared.answers.Counts.{Counts}
+use Rattle.clashes.specs.declared.answers.Counts.{Counts}
 use Rattle.listing.specs.Lines.{countsLine, factLine, refusalLine}
 
 -- how many lines there are

@@ -5,8 +5,8 @@ ghost use Rattle.listing.specs.Lines.{countsLine, factLine, refusalLine,
 use crate::put::put_decimal;
 use crate::put::put_named;
 use crate::put::put_word;
-use clean::Counts;
-use clean::Judged;
+use clashes::Counts;
+use clashes::Judged;
 use number::Refusal;
 
 // The room of a line: none is longer, whatever its numbers of 64 bits are.

@@ -10,10 +10,10 @@ use Rattle.bundle.specs.Bundle.{checkBundle, readBundle, factsOf, bundleOf}
 use Rattle.bundle.specs.declared.facts.Facts.{Facts}
 use Rattle.bundle.proofs.Accepted.{accepted-lawful as lawful-facts}
 use Rattle.bundle.proofs.RoundTrips.{written-read}
-use Rattle.follows.specs.Tables.{followsOf}
-use Rattle.clean.specs.Types.{itself}
-use Rattle.clean.specs.Marks.{kept}
-use Rattle.clean.proofs.OfKept.{kept-lawful}
+use Rattle.steps.specs.Tables.{followsOf}
+use Rattle.clashes.specs.Types.{itself}
+use Rattle.clashes.specs.Marks.{kept}
+use Rattle.clashes.proofs.OfKept.{kept-lawful}
 
 module _ (rules bundle : List ℕ) (h : Head) (b : Facts) (of-rules : checkRules rules ≡ gives h) (of-bundle : checkBundle h bundle ≡ gives b) where
   pub kept-reads : readBundle h (bundleOf (kept itself (followsOf (siteOf rules h)) (factsOf bundle b))) ≡ gives (kept itself (followsOf (siteOf rules h)) (factsOf bundle b))

@@ -22,19 +22,19 @@ use Rattle.site.proofs.Lists.{length-keep, count-within}
 use Rattle.rules.specs.declared.head.Head.{Head}
 use Rattle.rules.specs.RuleFile.{siteOf}
 use Rattle.bundle.specs.Bundle.{factsOf, factBytes, bundleOf}
-use Rattle.bundle.specs.Records.{roomFor}
-use Rattle.bundle.specs.declared.writing.BundleWrote.the-variants.{Written, Refused as NotWritten}
+use Rattle.writer.specs.Records.{roomFor}
+use Rattle.writer.specs.declared.writing.BundleWrote.the-variants.{Written, Refused as NotWritten}
 use Rattle.bundle.specs.declared.facts.Facts.{Facts}
-use Rattle.bundle.proofs.FactBytes.{sets-append}
-use Rattle.follows.specs.Tables.{Follows, followsOf}
+use Rattle.writer.proofs.FactBytes.{sets-append}
+use Rattle.steps.specs.Tables.{Follows, followsOf}
 use Rattle.follows.specs.Tells.{Tells}
-use Rattle.clean.specs.Types.{itself}
-use Rattle.clean.specs.Marks.{marked, kept}
-use Rattle.clean.specs.Coded.{bitsFollow}
+use Rattle.clashes.specs.Types.{itself}
+use Rattle.clashes.specs.Marks.{marked, kept}
+use Rattle.clashes.specs.Coded.{bitsFollow}
 use Rattle.clean.specs.Keeping.{keptBytes, measureOf, StoredKept}
 use Rattle.clean.specs.Operations.{keeping}
 use Rattle.clean.specs.declared.keep.Measure.{Measure}
-use Rattle.clean.proofs.OfAgreement.{kept-same}
+use Rattle.clashes.proofs.OfAgreement.{kept-same}
 use Rattle.clean.proofs.OfKeeping.{fact-short}
 use Rattle.bundle.specs.Opened.{Accepted}
 use Rattle.operations.specs.Promises.{WritesKept, StoresBundle}

@@ -28,17 +28,17 @@ use Rattle.bundle.specs.Opened.{opening, Accepted, openedTold, openedRefusal}
 use Rattle.bundle.specs.declared.facts.Facts.{Facts}
 use Rattle.bundle.proofs.OfOpened.{opening-accepted}
 use Rattle.bundle.proofs.Accepted.{accepted-lawful as lawful-facts, accepted-count}
-use Rattle.follows.specs.Tables.{Follows, followsOf}
+use Rattle.steps.specs.Tables.{Follows, followsOf}
 use Rattle.follows.specs.Tells.{Tells}
 use Rattle.follows.proofs.Telling.{excluded-coded, functional-coded}
-use Rattle.clean.specs.Types.{itself}
-use Rattle.clean.specs.Marks.{mark, partner, marks, partners, counts}
-use Rattle.clean.specs.Coded.{hasRole, bitsFollow}
-use Rattle.clean.specs.Tally.{Marks}
+use Rattle.clashes.specs.Types.{itself}
+use Rattle.clashes.specs.Marks.{mark, partner, marks, partners, counts}
+use Rattle.clashes.specs.Coded.{hasRole, bitsFollow}
+use Rattle.clashes.specs.Tally.{Marks}
 use Rattle.clean.specs.Operations.{given, roomForMarks, marking, counting, asking, having, joining, keeping}
 use Rattle.operations.specs.Promises.{countedTold, askedTold, repliedTold, MarksAll, WritesKept}
-use Rattle.clean.specs.declared.answers.Counts.{Counts}
-use Rattle.clean.specs.declared.answers.Judged.{Judged}
+use Rattle.clashes.specs.declared.answers.Counts.{Counts}
+use Rattle.clashes.specs.declared.answers.Judged.{Judged}
 use Rattle.bundle.specs.declared.open.Inputs.{Inputs}
 use Rattle.bundle.specs.declared.open.Opened.{Opened}
 use Rattle.bundle.specs.declared.open.Opened.the-variants.{Accepted as Ready, Refused as NotReady}
@@ -46,8 +46,8 @@ use Rattle.operations.specs.declared.mark.Counted.{Counted}
 use Rattle.operations.specs.declared.mark.Counted.the-variants.{Counts as CountsAre, Refused as NotCounted}
 use Rattle.operations.specs.declared.mark.Asked.the-variants.{Judged as JudgedSo, Refused as NotJudged}
 use Rattle.operations.specs.declared.question.Replied.the-variants.{Refused as NotReplied}
-use Rattle.bundle.specs.declared.writing.BundleWrote.the-variants.{Refused as NotWritten}
-use Rattle.clean.proofs.OfAgreement.{Agree, AllSpoken, mark-same, partner-same, marks-same, partners-same, counts-same}
+use Rattle.writer.specs.declared.writing.BundleWrote.the-variants.{Refused as NotWritten}
+use Rattle.clashes.proofs.OfAgreement.{Agree, AllSpoken, mark-same, partner-same, marks-same, partners-same, counts-same}
 
 -- what opening gives or refuses
 abbrev packed : Head → Facts → Answer Inputs

@@ -20,18 +20,18 @@ use Rattle.rules.specs.declared.head.Head.{Head}
 use Rattle.rules.specs.RuleFile.{siteOf}
 use Rattle.bundle.specs.Bundle.{factsOf}
 use Rattle.bundle.specs.declared.facts.Facts.{Facts}
-use Rattle.follows.specs.Tables.{followsOf}
+use Rattle.steps.specs.Tables.{followsOf}
 use Rattle.follows.specs.Tells.{Tells}
 use Rattle.site.proofs.OfCodes.{concept-code, role-code}
 use Rattle.follows.proofs.Telling.{included-coded}
-use Rattle.clean.specs.Types.{Typ as SaidTyp, typ, typesOf, itself}
-use Rattle.clean.specs.Marks.{samePlace, marked, supports, support}
-use Rattle.clean.specs.Coded.{code, codedTypes, bitsFollow, relatedAt, supportsCoded, supportIn}
+use Rattle.clashes.specs.Types.{Typ as SaidTyp, typ, typesOf, itself}
+use Rattle.clashes.specs.Marks.{samePlace, marked, supports, support}
+use Rattle.clashes.specs.Coded.{code, codedTypes, bitsFollow, relatedAt, supportsCoded, supportIn}
 use Rattle.clean.specs.Operations.{replyOf, having, joining}
-use Rattle.clean.specs.declared.types.Typ.{Typ}
-use Rattle.clean.proofs.OfAgreement.{any-same, first-same, type-declared, marked-same}
-use Rattle.clean.proofs.OfTests.{any-map}
-use Rattle.clean.proofs.OfTypes.{listed-of}
+use Rattle.clashes.specs.declared.types.Typ.{Typ}
+use Rattle.clashes.proofs.OfAgreement.{any-same, first-same, type-declared, marked-same}
+use Rattle.clashes.proofs.OfTests.{any-map}
+use Rattle.clashes.proofs.OfTypes.{listed-of}
 use Rattle.bundle.specs.Opened.{Accepted}
 use Rattle.operations.specs.Promises.{repliedTold, RepliesTo}
 use Rattle.operations.specs.declared.question.Replied.{Replied}

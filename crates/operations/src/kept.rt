@@ -5,22 +5,22 @@ ghost use lib.Seq.{sets};
 ghost use Rattle.number.specs.Number.{bytesOf};
 ghost use Rattle.bundle.specs.Bundle.{factsOf};
 ghost use Rattle.bundle.specs.Opened.{Accepted};
-ghost use Rattle.clean.specs.Coded.{bitsFollow};
+ghost use Rattle.clashes.specs.Coded.{bitsFollow};
 ghost use Rattle.clean.specs.Keeping.{keptBytes};
 ghost use Rattle.operations.specs.Promises.{WritesKept, StoresBundle};
-use bundle::BundleWrote;
 use bundle::Facts;
 use bundle::Opened;
 use bundle::open_inputs;
-use bundle::put_number;
 use clean::measure_kept;
 use clean::store_kept;
-use follows::BLANK;
-use follows::Table;
 use follows::fill;
 use number::Refusal;
 use number::size_of_number;
 use rules::Head;
+use tables::BLANK;
+use tables::Table;
+use writer::BundleWrote;
+use writer::put_number;
 
 // The count of the kept facts, then their bytes.
 fn store_bundle(

@@ -6,16 +6,16 @@ ghost use Rattle.operations.specs.Promises.{MarksAll, countedTold, asked
 use bundle::Facts;
 use bundle::Opened;
 use bundle::open_inputs;
-use clean::Counts;
-use clean::Judged;
+use clashes::Counts;
+use clashes::Judged;
 use clean::count_facts;
 use clean::fact_number;
 use clean::judge;
 use clean::mark_facts;
-use follows::BLANK;
 use follows::fill;
 use number::Refusal;
 use rules::Head;
+use tables::BLANK;
 
 // The counts, or the refusal.
 pub enum Counted {

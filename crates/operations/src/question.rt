@@ -6,15 +6,15 @@ ghost use Rattle.operations.specs.Promises.{repliedTold, RepliesTo};
 use bundle::Facts;
 use bundle::Opened;
 use bundle::open_inputs;
-use clean::Typ;
+use clashes::Typ;
 use clean::lowest_support;
-use follows::BLANK;
 use follows::fill;
 use number::Num;
 use number::Refusal;
 use rules::Head;
 use site::BasicConcept;
 use site::BasicRole;
+use tables::BLANK;
 
 // "yes with the lowest-numbered kept fact (..); else no", or the refusal.
 pub enum Replied {

@@ -15,12 +15,12 @@ use Rattle.rules.specs.Told.{rulesTold}
 use Rattle.rules.specs.declared.head.Head.{Head}
 use Rattle.rules.specs.declared.check.RulesRead.{RulesRead}
 use Rattle.rules.specs.declared.check.RulesRead.the-variants.{Accepted, Refused}
-use Rattle.bundle.specs.Pushed.{startOf, judged, placed, storedBy, stateAfter, memoryAfter, secondStart, countStored, answerOf, Pushes, Begins, wroteTold, firstState, lastState, lastMemory}
-use Rattle.bundle.specs.declared.writing.Writing.{Writing}
-use Rattle.bundle.specs.declared.writing.BundleWrote.{BundleWrote}
-use Rattle.bundle.specs.declared.writing.BundleWrote.the-variants.{Written, Refused as NotWritten}
-use Rattle.bundle.proofs.Pushing.{pass-keeps}
-use Rattle.bundle.proofs.TwoPasses.{start-storing, two-passes-of-records}
+use Rattle.writer.specs.Pushed.{startOf, judged, placed, storedBy, stateAfter, memoryAfter, secondStart, countStored, answerOf, Pushes, Begins, wroteTold, firstState, lastState, lastMemory}
+use Rattle.writer.specs.declared.writing.Writing.{Writing}
+use Rattle.writer.specs.declared.writing.BundleWrote.{BundleWrote}
+use Rattle.writer.specs.declared.writing.BundleWrote.the-variants.{Written, Refused as NotWritten}
+use Rattle.writer.proofs.Pushing.{pass-keeps}
+use Rattle.writer.proofs.TwoPasses.{start-storing, two-passes-of-records}
 use Rattle.records.specs.Rows.{factOf, writeRow}
 use Rattle.records.specs.Told.{rowAnswer}
 use Rattle.records.specs.Written.{openedBy, opened, PushesRow, TurnsOver, ended, WritesRow}

@@ -8,8 +8,8 @@ use Rattle.number.specs.Answer.{Answer, refusal, over, laid}
 use Rattle.number.specs.Answer.Answer.{gives, refuses}
 use Rattle.rules.specs.RuleFile.{checkRules}
 use Rattle.rules.specs.declared.head.Head.{Head}
-use Rattle.bundle.specs.Pushed.{startOf, stateAfter, memoryAfter, secondStart, countStored, answerOf}
-use Rattle.bundle.specs.declared.writing.Writing.{Writing}
+use Rattle.writer.specs.Pushed.{startOf, stateAfter, memoryAfter, secondStart, countStored, answerOf}
+use Rattle.writer.specs.declared.writing.Writing.{Writing}
 use Rattle.records.specs.Told.{rowAnswer}
 use Rattle.records.specs.Rows.{factOf, writeRow}
 use Rattle.records.specs.declared.record.Record.{Record}

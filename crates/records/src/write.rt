@@ -3,20 +3,20 @@ ghost use mathlib.Core.Path.{_≡_};
 ghost use Prim.Native.Nat.{_≤_};
 ghost use lib.ListN.{length, take};
 ghost use Rattle.number.specs.Answer.Answer.{refuses};
-ghost use Rattle.bundle.specs.Pushed.{Pushes, wroteTold};
+ghost use Rattle.writer.specs.Pushed.{Pushes, wroteTold};
 ghost use Rattle.records.specs.Rows.{factOf};
 ghost use Rattle.records.specs.Told.{rowAnswer};
 ghost use Rattle.records.specs.Written.{opened, PushesRow, TurnsOver, ended, WritesRow};
 use crate::answer::RowAnswer;
 use crate::record::Record;
-use bundle::BundleWrote;
-use bundle::Writing;
-use bundle::begin;
-use bundle::push;
 use number::Refusal;
 use rules::Head;
 use rules::RulesRead;
 use rules::check_rules;
+use writer::BundleWrote;
+use writer::Writing;
+use writer::begin;
+use writer::push;
 
 // How a writing starts: the rules' head and the first pass, or the rules' refusal and no turns.
 pub struct Opening {

@@ -13,13 +13,13 @@ use Rattle.site.specs.Kinds.{BasicRole, BasicConcept, Node, Site}
 use Rattle.site.specs.Kinds.Node.{concept, role}
 use Rattle.site.proofs.Lists.{any-found, any-of, and-left, and-right, and-both}
 use Rattle.rules.specs.Lawful.{Lawful}
-use Rattle.follows.specs.Tables.{Follows}
-use Rattle.follows.specs.Decides.{Decides}
-use Rattle.clean.specs.Types.{typ, typesOf}
-use Rattle.clean.specs.Marks.{samePlace, supports, kept, support}
-use Rattle.clean.proofs.OfTypes.{TypeOf, listed-of, of-listed}
-use Rattle.clean.proofs.OfAnswers.{supported}
-use Rattle.clean.proofs.OfKept.{kept-is}
+use Rattle.steps.specs.Tables.{Follows}
+use Rattle.steps.specs.Decides.{Decides}
+use Rattle.clashes.specs.Types.{typ, typesOf}
+use Rattle.clashes.specs.Marks.{samePlace, supports, kept, support}
+use Rattle.clashes.proofs.OfTypes.{TypeOf, listed-of, of-listed}
+use Rattle.clashes.proofs.OfAnswers.{supported}
+use Rattle.clashes.proofs.OfKept.{kept-is}
 use Rattle.worlds.specs.Worlds.{Is, Joins, WorldOf, Always}
 use Rattle.worlds.proofs.Sound.{At, included-holds, type-shown, shown-at}
 use Rattle.worlds.proofs.Told.{Told}

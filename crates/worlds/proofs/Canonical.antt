@@ -12,12 +12,12 @@ use Rattle.site.specs.Kinds.Node.{concept, role}
 use Rattle.site.specs.Lists.{any}
 use Rattle.site.proofs.Lists.{any-found, any-of, and-left, and-right, and-both}
 use Rattle.rules.specs.Lawful.{Lawful}
-use Rattle.follows.specs.Tables.{Follows}
-use Rattle.follows.specs.Decides.{Decides}
-use Rattle.clean.specs.Types.{Typ, typesOf}
+use Rattle.steps.specs.Tables.{Follows}
+use Rattle.steps.specs.Decides.{Decides}
+use Rattle.clashes.specs.Types.{Typ, typesOf}
 use Rattle.worlds.specs.Worlds.{World, Names, Joins, Is, Says, Holds, WorldOf}
-use Rattle.clean.proofs.OfTypes.{TypeOf, listed-of, of-listed}
-use Rattle.clean.proofs.OfTypes.TypeOf.{is-a, joins}
+use Rattle.clashes.proofs.OfTypes.{TypeOf, listed-of, of-listed}
+use Rattle.clashes.proofs.OfTypes.TypeOf.{is-a, joins}
 use Rattle.worlds.proofs.Chase.{Element, Link, Blocks, Partnered, chased, joins-link, is-has, obeys-all}
 use Rattle.worlds.proofs.Chase.Element.{device, child}
 use Rattle.worlds.proofs.Chase.Link.{told, up}

@@ -13,12 +13,12 @@ use Rattle.site.specs.Kinds.Rule.{included, disjoint, roleIncluded, roleDisjoin
 use Rattle.site.proofs.Same.{turned-twice}
 use Rattle.site.proofs.Lists.{true-not-false, either}
 use Rattle.rules.specs.Lawful.{Lawful}
-use Rattle.follows.specs.Steps.{Included, Excluded, OneOf}
-use Rattle.follows.specs.Steps.SaysIncluded.{kind-0, kind-2}
-use Rattle.follows.specs.Steps.SaysExcluded.{kind-1, kind-3}
-use Rattle.follows.specs.Steps.Included.{step-1, step-2, step-3, step-4}
-use Rattle.follows.specs.Steps.Excluded.{step-5, step-6, step-8}
-use Rattle.follows.proofs.Laws.{turnedNode, someNode, included-declared, functional-alone}
+use Rattle.steps.specs.Steps.{Included, Excluded, OneOf}
+use Rattle.steps.specs.Steps.SaysIncluded.{kind-0, kind-2}
+use Rattle.steps.specs.Steps.SaysExcluded.{kind-1, kind-3}
+use Rattle.steps.specs.Steps.Included.{step-1, step-2, step-3, step-4}
+use Rattle.steps.specs.Steps.Excluded.{step-5, step-6, step-8}
+use Rattle.steps.proofs.Laws.{turnedNode, someNode, included-declared, functional-alone}
 use Rattle.worlds.specs.Worlds.{World, Joins, Is, Obeys}
 
 -- a named thing, or the partner by p that an element demands

@@ -11,13 +11,13 @@ use Rattle.site.specs.declared.fact.Fact.{Fact}
 use Rattle.site.specs.Kinds.{Site}
 use Rattle.site.proofs.Lists.{either, is-false, true-not-false, getD-within}
 use Rattle.rules.specs.Lawful.{Lawful}
-use Rattle.follows.specs.Tables.{Follows}
-use Rattle.follows.specs.Decides.{Decides}
-use Rattle.clean.specs.Marks.{alone, contradict, clash, mark, partner}
-use Rattle.clean.proofs.OfClash.{clash-is}
-use Rattle.clean.proofs.OfMarks.{mark-1}
-use Rattle.clean.proofs.OfPartners.{lowest-clash}
-use Rattle.clean.proofs.OfTypes.{Against, contradict-against, against-contradict, alone-against, against-alone}
+use Rattle.steps.specs.Tables.{Follows}
+use Rattle.steps.specs.Decides.{Decides}
+use Rattle.clashes.specs.Marks.{alone, contradict, clash, mark, partner}
+use Rattle.clashes.proofs.OfClash.{clash-is}
+use Rattle.clashes.proofs.OfMarks.{mark-1}
+use Rattle.clashes.proofs.OfPartners.{lowest-clash}
+use Rattle.clashes.proofs.OfTypes.{Against, contradict-against, against-contradict, alone-against, against-alone}
 use Rattle.worlds.specs.Worlds.{Consistent, Conflict, LowestConflict}
 use Rattle.worlds.proofs.OfLists.{Within, within-cons, within-nil}
 use Rattle.worlds.proofs.Told.{Peaceful, peaceful-nil, peaceful-cons}

@@ -10,12 +10,12 @@ use Rattle.site.specs.Kinds.{Site}
 use Rattle.site.specs.Lists.{any}
 use Rattle.site.proofs.Lists.{any-found, any-of, either, true-not-false}
 use Rattle.rules.specs.Lawful.{Lawful}
-use Rattle.follows.specs.Tables.{Follows}
-use Rattle.follows.specs.Decides.{Decides}
-use Rattle.clean.specs.Marks.{contradict}
+use Rattle.steps.specs.Tables.{Follows}
+use Rattle.steps.specs.Decides.{Decides}
+use Rattle.clashes.specs.Marks.{contradict}
 use Rattle.worlds.specs.Worlds.{Consistent}
 use Rattle.worlds.proofs.OfLists.{Within}
-use Rattle.clean.proofs.OfTypes.{contradict-against, against-contradict}
+use Rattle.clashes.proofs.OfTypes.{contradict-against, against-contradict}
 use Rattle.worlds.proofs.Sound.{Near, against-never}
 use Rattle.worlds.proofs.Told.{Peaceful, Spoken}
 use Rattle.worlds.proofs.Canonical.{canonical, canonical-world}

@@ -7,7 +7,7 @@ use Rattle.rules.specs.RuleFile.{siteOf}
 use Rattle.rules.proofs.AcceptedFile.{accepted-lawful as lawful-rules}
 use Rattle.bundle.specs.Bundle.{factsOf, checkBundle, readBundle}
 use Rattle.bundle.proofs.Accepted.{accepted-lawful as lawful-facts}
-use Rattle.follows.proofs.Decided.{decides}
+use Rattle.steps.proofs.Decided.{decides}
 use Rattle.worlds.specs.Demand3.{SiteDecided, Demand3}
 use Rattle.worlds.proofs.SiteDecided.{site-decided}
 

@@ -17,7 +17,7 @@ use Rattle.site.specs.Items.{countAt, codeAt, endAt}
 use Rattle.rules.specs.declared.head.Head.{Head}
 use Rattle.rules.specs.RuleFile.{headOf, codeDeclared, ruleAt, rulesFrom, rulesIn, unbroken, afterRules, checkRules, siteOf}
 use Rattle.bundle.specs.Bundle.{factAt, factsFrom, factsIn, checkBundle, readBundle}
-use Rattle.clean.specs.Types.{itself}
+use Rattle.clashes.specs.Types.{itself}
 use Rattle.worlds.specs.Worlds.{World, Is, Obeys, Holds, WorldOf, Consistent}
 
 -- Root has a next; what is a next has a next; Root is no next; a next is that of one thing only

@@ -21,9 +21,9 @@ use Rattle.site.specs.Items.{countAt, codeAt, endAt}
 use Rattle.rules.specs.declared.head.Head.{Head}
 use Rattle.rules.specs.RuleFile.{headOf, codeDeclared, ruleAt, rulesFrom, rulesIn, unbroken, afterRules, checkRules, siteOf}
 use Rattle.bundle.specs.Bundle.{factAt, factsFrom, factsIn, checkBundle, readBundle}
-use Rattle.follows.specs.Tables.{rolesOf, nodesOf, arrow, mates, find, rowsOf, looked, through, closure, apart, empty, excludes, functionalIn, excludedRows, followsFrom, followsOf}
-use Rattle.clean.specs.Types.{itself, typesOf}
-use Rattle.clean.specs.Marks.{jar, split, meet, alone, contradict, clash, mark, marked, kept}
+use Rattle.steps.specs.Tables.{rolesOf, nodesOf, arrow, mates, find, rowsOf, looked, through, closure, apart, empty, excludes, functionalIn, excludedRows, followsFrom, followsOf}
+use Rattle.clashes.specs.Types.{itself, typesOf}
+use Rattle.clashes.specs.Marks.{jar, split, meet, alone, contradict, clash, mark, marked, kept}
 use Rattle.clean.proofs.Cases.{R, F}
 use Rattle.worlds.specs.Worlds.{World, Obeys, Holds, WorldOf}
 

@@ -15,10 +15,10 @@ use Rattle.rules.specs.Lawful.{Lawful}
 use Rattle.bundle.specs.Bundle.{Last}
 use Rattle.bundle.specs.Lawful.{LawfulFact, LawfulFrom, LawfulFacts}
 use Rattle.bundle.specs.Lawful.LawfulFrom.{done, next}
-use Rattle.follows.specs.Tables.{Follows, followsOf}
-use Rattle.follows.specs.Decides.{Decides}
-use Rattle.clean.specs.Types.{itself, typ}
-use Rattle.clean.specs.Marks.{mark, partner, kept, support}
+use Rattle.steps.specs.Tables.{Follows, followsOf}
+use Rattle.steps.specs.Decides.{Decides}
+use Rattle.clashes.specs.Types.{itself, typ}
+use Rattle.clashes.specs.Marks.{mark, partner, kept, support}
 use Rattle.worlds.specs.Worlds.{Is, Joins, Consistent, LeftOut, LowestConflict, Always}
 use Rattle.worlds.specs.Demand3.{SiteDecided}
 use Rattle.worlds.proofs.Conflicts.{alone-worldless, partner-conflict}

@@ -14,13 +14,13 @@ use Rattle.site.specs.Kinds.Rule.{functional}
 use Rattle.site.specs.Codes.{predicateDeclared}
 use Rattle.site.proofs.Lists.{either, true-not-false}
 use Rattle.rules.specs.Lawful.{Lawful}
-use Rattle.follows.specs.Steps.{Included, Excluded}
-use Rattle.follows.specs.Steps.Included.{step-1, step-2}
-use Rattle.follows.specs.Steps.Excluded.{step-5, step-6}
-use Rattle.follows.proofs.Laws.{turnedNode, someNode, included-turn, included-having, included-declared, functional-alone}
-use Rattle.clean.proofs.OfTypes.{TypeOf, Against, against-turned}
-use Rattle.clean.proofs.OfTypes.TypeOf.{is-a, has, had, joins, joined}
-use Rattle.clean.proofs.OfTypes.Against.{jars, splits}
+use Rattle.steps.specs.Steps.{Included, Excluded}
+use Rattle.steps.specs.Steps.Included.{step-1, step-2}
+use Rattle.steps.specs.Steps.Excluded.{step-5, step-6}
+use Rattle.steps.proofs.Laws.{turnedNode, someNode, included-turn, included-having, included-declared, functional-alone}
+use Rattle.clashes.proofs.OfTypes.{TypeOf, Against, against-turned}
+use Rattle.clashes.proofs.OfTypes.TypeOf.{is-a, has, had, joins, joined}
+use Rattle.clashes.proofs.OfTypes.Against.{jars, splits}
 use Rattle.worlds.proofs.Chase.{Closed, Harmless}
 
 -- the facts tell that a node holds at an ordered pair

@@ -14,9 +14,9 @@ use Rattle.site.specs.Limits.{mostThing}
 use Rattle.rules.specs.declared.head.Head.{Head}
 use Rattle.rules.specs.RuleFile.{checkRules, siteOf}
 use Rattle.bundle.specs.Bundle.{readBundle}
-use Rattle.follows.specs.Tables.{followsOf}
-use Rattle.clean.specs.Types.{itself, typ}
-use Rattle.clean.specs.Marks.{mark, partner, kept, support}
+use Rattle.steps.specs.Tables.{followsOf}
+use Rattle.clashes.specs.Types.{itself, typ}
+use Rattle.clashes.specs.Marks.{mark, partner, kept, support}
 use Rattle.worlds.specs.Worlds.{Is, Joins, Consistent, LeftOut, LowestConflict, Always}
 
 -- the statement for a site's rules and facts

@@ -2,7 +2,7 @@
 use Rattle.clean.proofs.OfKeeping.{keeping}
 use mathlib.Core.List.{[]}
 use Rattle.bundle.specs.Bundle.{factsOf}
-use Rattle.clean.specs.Coded.{bitsFollow}
+use Rattle.clashes.specs.Coded.{bitsFollow}
 use Rattle.clean.proofs.OfKeeping.{Measuring}
 use Rattle.clean.proofs.keep.measure_kept.Statement.{statement}
 use Rattle.clean.proofs.keep.measure_kept.Tie as tie

@@ -2,7 +2,7 @@
 use Rattle.clean.proofs.OfRows.{rows}
 use mathlib.Core.List.{[]}
 use Rattle.bundle.specs.Bundle.{factsOf}
-use Rattle.clean.specs.Coded.{bitsFollow}
+use Rattle.clashes.specs.Coded.{bitsFollow}
 use Rattle.clean.proofs.OfRows.{Marking}
 use Rattle.clean.proofs.row.mark_facts.Statement.{statement}
 use Rattle.clean.proofs.row.mark_facts.Tie as tie

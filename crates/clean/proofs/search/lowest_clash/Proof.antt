@@ -3,9 +3,9 @@ use Rattle.clean.proofs.OfSearch.{searching}
 use mathlib.Core.List.{[]}
 use Rattle.site.specs.Limits.{noPartner}
 use Rattle.bundle.specs.Bundle.{factsIn}
-use Rattle.clean.specs.Types.{itself}
-use Rattle.clean.specs.Marks.{clash}
-use Rattle.clean.specs.Coded.{bitsFollow}
+use Rattle.clashes.specs.Types.{itself}
+use Rattle.clashes.specs.Marks.{clash}
+use Rattle.clashes.specs.Coded.{bitsFollow}
 use Rattle.clean.proofs.OfWalks.{Seeking}
 use Rattle.clean.proofs.search.lowest_clash.Statement.{statement}
 use Rattle.clean.proofs.search.lowest_clash.Tie as tie

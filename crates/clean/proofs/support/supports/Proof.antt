@@ -1,4 +1,4 @@
-use Rattle.clean.proofs.OfTypeCodes.{typed}
+use Rattle.clashes.proofs.OfTypeCodes.{typed}
 use Rattle.clean.proofs.support.supports.Statement.{statement}
 use Rattle.clean.proofs.support.supports.Tie as tie
 

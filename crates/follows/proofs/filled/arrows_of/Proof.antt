@@ -1,7 +1,7 @@
 -- The loop's invariant: the arrows of the rules before the place are in the table, and those rules and the ones left are all the rules.
 use Rattle.follows.proofs.Filling.{filling}
 use Rattle.rules.specs.RuleFile.{rulesIn}
-use Rattle.follows.specs.Tables.{arrowsOf}
+use Rattle.steps.specs.Tables.{arrowsOf}
 use Rattle.follows.specs.Tells.{AddedSoFar}
 use Rattle.follows.proofs.filled.arrows_of.Statement.{statement}
 use Rattle.follows.proofs.filled.arrows_of.Tie as tie

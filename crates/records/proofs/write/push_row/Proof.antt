@@ -20,10 +20,10 @@ use denote.Struct.Laws as LL
 use Rattle.rules.specs.declared.head.Head.{Head}
 use Rattle.rules.proofs.head.Head as He
 use Rattle.rules.proofs.head.Head.Laws as He′
-use Rattle.bundle.specs.Pushed.{Pushes}
-use Rattle.bundle.specs.declared.writing.Writing.{Writing}
-use Rattle.bundle.proofs.writing.Writing as Wr
-use Rattle.bundle.proofs.writing.Writing.Laws as Wr′
+use Rattle.writer.specs.Pushed.{Pushes}
+use Rattle.writer.specs.declared.writing.Writing.{Writing}
+use Rattle.writer.proofs.writing.Writing as Wr
+use Rattle.writer.proofs.writing.Writing.Laws as Wr′
 use Rattle.records.specs.Rows.{factOf}
 use Rattle.records.specs.Written.{PushesRow}
 use Rattle.records.specs.declared.record.Record.{Record}

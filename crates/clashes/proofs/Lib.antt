@@ -1,0 +1,10 @@
+pub mod OfAgreement
+pub mod OfAnswers
+pub mod OfClash
+pub mod OfCounts
+pub mod OfKept
+pub mod OfMarks
+pub mod OfPartners
+pub mod OfTests
+pub mod OfTypeCodes
+pub mod OfTypes

@@ -1,0 +1,11 @@
+use Rattle.clashes.proofs.OfTypeCodes.{typed}
+use Rattle.clashes.proofs.types.role_type.Statement.{statement}
+use Rattle.clashes.proofs.types.role_type.Tie as tie
+
+pub role-type-spec : {M : Type 1} → statement M
+role-type-spec =
+    tie.close
+    (tie.spec
+    (λ c κs. search typed)
+    (λ c κs. search typed)
+    (λ c. search typed))

@@ -1,0 +1,4 @@
+pub mod Coded
+pub mod Marks
+pub mod Tally
+pub mod Types

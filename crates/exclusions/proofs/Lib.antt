@@ -1,0 +1,4 @@
+pub mod Lowers
+pub mod Mirroring
+pub mod Taking
+pub mod WordBits

@@ -1,0 +1,5 @@
+pub mod NeverZero
+pub mod OneAnswer
+pub mod RuledOut
+pub mod RuledOutRecords
+pub mod WorkedSite

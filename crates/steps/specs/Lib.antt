@@ -1,0 +1,4 @@
+pub mod Closed
+pub mod Decides
+pub mod Steps
+pub mod Tables
