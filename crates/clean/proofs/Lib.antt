@@ -14,3 +14,4 @@ pub mod OfRows
 pub mod OfSearch
 pub mod OfTypeCodes
 pub mod OfWalks
+pub mod WrongAnswers
