@@ -1,8 +1,8 @@
 -- Wrong answers that the definitions rule out, at small sites: the checker computes the right ones, each wrong one differs in a number.
--- For each of document 01's steps there is an answer that it alone gives, and what it gives is among what is included or excluded.
+-- For each of document 01's steps there is an answer that needs it, and what the step gives there is included or excluded by its name.
 use Prim.Native.Nat.{ℕ, _+_}
 use mathlib.Core.Path.{_≡_, refl, sym, ap, _∙_}
-use mathlib.Core.Bool.{Bool, true, false, false≢true}
+use mathlib.Core.Bool.{true, false, false≢true}
 use mathlib.Core.List.{List, [], _∷_, List·Memᴰ·head, List·Memᴰ·tail}
 use lib.ListN.{getD}
 use lib.Dec.{eqb}
@@ -12,7 +12,7 @@ use Rattle.number.specs.Answer.Answer.{gives, refuses}
 use Rattle.number.specs.declared.refusal.Refusal.{Refusal}
 use Rattle.number.specs.Number.{formOf, second, third, numberAt}
 use Rattle.site.specs.declared.fact.Fact.{Fact}
-use Rattle.site.specs.Kinds.{Rule, Site}
+use Rattle.site.specs.Kinds.{Node, Rule, Site}
 use Rattle.site.specs.Kinds.BasicRole.{forward, inverse}
 use Rattle.site.specs.Kinds.BasicConcept.{named, some}
 use Rattle.site.specs.Kinds.Node.{concept, role}
@@ -169,3 +169,136 @@ count-not-judged j = ruled-out refusedBy (right .at-count) refl
 
 pub past-count-not-judged : (j : Judged) → asking within both 3 ≡ gives j → ⊥
 past-count-not-judged j = ruled-out refusedBy (right .past-count) refl
+
+-- ---- the steps: for each, a site and what is answered there, which is another without the step; and what the step gives
+abbrev site : ℕ → ℕ → List Rule → Site
+site concepts roles rules = record { concepts = concepts; roles = roles; rules = rules }
+
+abbrev fact : ℕ → ℕ → ℕ → Fact
+fact predicate subject object = record { predicate = predicate; subject = subject; object = object }
+
+-- "B of a", "q from a to b", and the marks
+abbrev pub hasType : Site → List Fact → Node → ℕ → ℕ → Reply
+hasType s facts node a b = replyOf (followsOf s) facts (typ node a b)
+
+abbrev pub marksIn : Site → List Fact → List ℕ
+marksIn s facts = marks itself (followsOf s) facts
+
+abbrev pub noRule : Site
+noRule = site 1 0 []
+
+abbrev pub twoInclusions : Site
+twoInclusions = site 3 0 (included (named 0) (named 1) ∷ included (named 1) (named 2) ∷ [])
+
+abbrev pub roleInclusion : Site
+roleInclusion = site 0 2 (roleIncluded (forward 0) (forward 1) ∷ [])
+
+abbrev pub oneDisjoint : Site
+oneDisjoint = site 2 0 (disjoint (named 0) (named 1) ∷ [])
+
+abbrev pub belowDisjoint : Site
+belowDisjoint = site 3 0 (included (named 0) (named 1) ∷ disjoint (named 1) (named 2) ∷ [])
+
+abbrev pub belowRoleDisjoint : Site
+belowRoleDisjoint = site 0 3 (roleIncluded (forward 0) (forward 1) ∷ roleDisjoint (forward 1) (forward 2) ∷ [])
+
+abbrev pub oneRoleDisjoint : Site
+oneRoleDisjoint = site 0 2 (roleDisjoint (forward 0) (forward 1) ∷ [])
+
+abbrev pub emptyRole : Site
+emptyRole = site 1 1 (included (named 0) (some (inverse 0)) ∷ disjoint (some (forward 0)) (some (forward 0)) ∷ [])
+
+record RightSteps : Type 0 where
+  by-1 : hasType noRule (fact 0 9 0 ∷ []) (concept (named 0)) 9 9 ≡ yes-by 0
+  by-2 : hasType twoInclusions (fact 0 7 0 ∷ []) (concept (named 2)) 7 7 ≡ yes-by 0
+  by-3 : hasType roleInclusion (fact 64 7 8 ∷ []) (role (inverse 1)) 8 7 ≡ yes-by 0
+  by-4 : hasType roleInclusion (fact 64 7 8 ∷ []) (concept (some (forward 1))) 7 7 ≡ yes-by 0
+  by-5 : marksIn oneDisjoint (fact 0 7 0 ∷ fact 1 7 0 ∷ []) ≡ 2 ∷ 2 ∷ []
+  by-6 : marksIn belowDisjoint (fact 0 7 0 ∷ fact 2 7 0 ∷ []) ≡ 2 ∷ 2 ∷ []
+  by-6-roles : marksIn belowRoleDisjoint (fact 64 7 8 ∷ fact 66 7 8 ∷ []) ≡ 2 ∷ 2 ∷ []
+  by-7 : followsOf oneRoleDisjoint .isExcluded (role (inverse 0)) (role (inverse 1)) ≡ true
+  by-8 : marksIn emptyRole (fact 0 7 0 ∷ []) ≡ 1 ∷ []
+
+right-steps : RightSteps
+unfolding upTo any first each rolesOf nodesOf arrow mates find rowsOf looked through closure apart empty excludes functionalIn excludedRows followsFrom followsOf typesOf jar split meet alone contradict clash mark marks marked supports support replyOf
+right-steps =
+    record {
+      by-1 = refl;
+      by-2 = refl;
+      by-3 = refl;
+      by-4 = refl;
+      by-5 = refl;
+      by-6 = refl;
+      by-6-roles = refl;
+      by-7 = refl;
+      by-8 = refl;
+    }
+
+-- step 1: Camera(9) answers whether 9 is a Camera, without any rule
+pub without-step-1 : hasType noRule (fact 0 9 0 ∷ []) (concept (named 0)) 9 9 ≡ none → ⊥
+without-step-1 = ruled-out replied (right-steps .by-1) refl
+
+pub given-by-step-1 : Included noRule (concept (named 0)) (concept (named 0))
+given-by-step-1 = step-1 refl
+
+-- step 2: concept 0 in 1, 1 in 2
+pub without-step-2 : hasType twoInclusions (fact 0 7 0 ∷ []) (concept (named 2)) 7 7 ≡ none → ⊥
+without-step-2 = ruled-out replied (right-steps .by-2) refl
+
+pub given-by-step-2 : Included twoInclusions (concept (named 0)) (concept (named 2))
+given-by-step-2 =
+    step-2 (included-by-rule (List·Memᴰ·head refl) (kind-0 {b = named 0} {c = named 1})) (included-by-rule (List·Memᴰ·tail (List·Memᴰ·head refl)) kind-0)
+
+-- step 3: role 0 in role 1, asked from the object to the subject
+pub without-step-3 : hasType roleInclusion (fact 64 7 8 ∷ []) (role (inverse 1)) 8 7 ≡ none → ⊥
+without-step-3 = ruled-out replied (right-steps .by-3) refl
+
+pub given-by-step-3 : Included roleInclusion (role (inverse 0)) (role (inverse 1))
+given-by-step-3 = step-3 {p = forward 0} {q = forward 1} (included-by-rule (List·Memᴰ·head refl) kind-2)
+
+-- step 4: and asked whether 7 has a partner by role 1
+pub without-step-4 : hasType roleInclusion (fact 64 7 8 ∷ []) (concept (some (forward 1))) 7 7 ≡ none → ⊥
+without-step-4 = ruled-out replied (right-steps .by-4) refl
+
+pub given-by-step-4 : Included roleInclusion (concept (some (forward 0))) (concept (some (forward 1)))
+given-by-step-4 = step-4 (included-by-rule (List·Memᴰ·head refl) kind-2)
+
+-- step 5: both facts of two disjoint concepts are disputed, and not the one that the rule names first or last
+pub without-step-5 : marksIn oneDisjoint (fact 0 7 0 ∷ fact 1 7 0 ∷ []) ≡ 2 ∷ 0 ∷ [] → ⊥
+without-step-5 = ruled-out (λ row. getD row 1 3) (right-steps .by-5) refl
+
+pub without-step-5-turned : marksIn oneDisjoint (fact 0 7 0 ∷ fact 1 7 0 ∷ []) ≡ 0 ∷ 2 ∷ [] → ⊥
+without-step-5-turned = ruled-out (λ row. getD row 0 3) (right-steps .by-5) refl
+
+pub given-by-step-5 : Excluded oneDisjoint (concept (named 1)) (concept (named 0))
+given-by-step-5 = step-5 (excluded-by-rule (List·Memᴰ·head refl) kind-1)
+
+-- step 6: concept 0 in 1, 1 disjoint from 2
+pub without-step-6 : marksIn belowDisjoint (fact 0 7 0 ∷ fact 2 7 0 ∷ []) ≡ 0 ∷ 0 ∷ [] → ⊥
+without-step-6 = ruled-out (λ row. getD row 0 3) (right-steps .by-6) refl
+
+pub given-by-step-6 : Excluded belowDisjoint (concept (named 0)) (concept (named 2))
+given-by-step-6 =
+    step-6 (included-by-rule (List·Memᴰ·head refl) (kind-0 {b = named 0} {c = named 1})) (excluded-by-rule (List·Memᴰ·tail (List·Memᴰ·head refl)) kind-1)
+
+-- the same of roles
+pub without-step-6-roles : marksIn belowRoleDisjoint (fact 64 7 8 ∷ fact 66 7 8 ∷ []) ≡ 0 ∷ 0 ∷ [] → ⊥
+without-step-6-roles = ruled-out (λ row. getD row 0 3) (right-steps .by-6-roles) refl
+
+pub given-by-step-6-roles : Excluded belowRoleDisjoint (role (forward 0)) (role (forward 2))
+given-by-step-6-roles =
+    step-6 (included-by-rule (List·Memᴰ·head refl) (kind-2 {p = forward 0} {q = forward 1})) (excluded-by-rule (List·Memᴰ·tail (List·Memᴰ·head refl)) kind-3)
+
+-- step 7: it changes no mark, since a role's fact has both directions among its types; so of the test itself
+pub without-step-7 : followsOf oneRoleDisjoint .isExcluded (role (inverse 0)) (role (inverse 1)) ≡ false → ⊥
+without-step-7 e = false≢true (sym e ∙ right-steps .by-7)
+
+pub given-by-step-7 : Excluded oneRoleDisjoint (role (inverse 0)) (role (inverse 1))
+given-by-step-7 = step-7 {p = forward 0} {q = forward 1} (excluded-by-rule (List·Memᴰ·head refl) kind-3)
+
+-- step 8: nobody has a partner by role 0, so nobody is one, and concept 0 demands to be one
+pub without-step-8 : marksIn emptyRole (fact 0 7 0 ∷ []) ≡ 0 ∷ [] → ⊥
+without-step-8 = ruled-out (λ row. getD row 0 3) (right-steps .by-8) refl
+
+pub given-by-step-8 : Excluded emptyRole (concept (some (inverse 0))) (concept (some (inverse 0)))
+given-by-step-8 = step-8 {q = forward 0} has has-inverse (excluded-by-rule (List·Memᴰ·tail (List·Memᴰ·head refl)) kind-1)
