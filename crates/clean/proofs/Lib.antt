@@ -15,3 +15,4 @@ pub mod OfSearch
 pub mod OfTypeCodes
 pub mod OfWalks
 pub mod WrongAnswers
+pub mod SameRules
