@@ -10,8 +10,8 @@ compile --crate-type rlib --crate-name text "$built/text/lib.rs" -o "$built/libt
 compile --extern "text=$built/libtext.rlib" bench/main.rs -o "$built/bench"
 archive=target/staticlib/libdzyunagor.a
 [ -f "$archive" ] || rt staticlib dzyunagor
-tests/x86.sh build no "$built/archive" bench/archive.c "$archive"
-ARCHIVE=$(tests/x86.sh command "$built/archive")
+tools/x86.sh build no "$built/archive" bench/archive.c "$archive"
+ARCHIVE=$(tools/x86.sh command "$built/archive")
 export ARCHIVE
 {
   cat bench/HEAD.md

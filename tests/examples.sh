@@ -1,7 +1,7 @@
 #!/usr/bin/env bash
 # Compiles the header by itself, and the examples against the library's archive; runs them on the worked site and compares what they print.
-# The archive is for x86-64. On another processor the C examples are compiled, linked and run by the toolchain's own compiler and emulator, and
-# the Rust examples, for want of Rust's own library, are only checked by its compiler.
+# The archive is for x86-64. On another processor tools/x86.sh compiles, links and runs the C examples, and the Rust examples, for want of
+# Rust's own library, are only checked by its compiler.
 # With a path it takes that archive, one for this machine, and builds none. It skips where the archive cannot be built, and says so.
 set -u
 cd "$(dirname "$0")/.." || exit 2
@@ -10,7 +10,7 @@ strict=(-std=c11 -O2 -Wall -Wextra -Wpedantic -Werror -Iinclude)
 work=$(mktemp -d)
 trap 'rm -rf "$work"' EXIT
 bad=0
-emulator=()
+runner=()
 
 # the examples of each language
 c=(clean records)
@@ -34,7 +34,7 @@ fail() {
 compare() {
   local due
   due=$(printed "$1")
-  if ! "${emulator[@]}" "$2" >"$work/out"; then
+  if ! "${runner[@]}" "$2" >"$work/out"; then
     fail "$1 did not end well"
   elif ! diff -u "$due" "$work/out"; then
     fail "$1 prints something else than $due"
@@ -43,22 +43,9 @@ compare() {
   fi
 }
 
-# a C example as a program for x86-64, by the toolchain's own compiler, linker and C library
-link_across() {
-  local kit tools libs
-  kit=$(dirname "$(dirname "$(rt doc)")")
-  tools=$kit/on/$(uname -m)/toolchain
-  libs=$tools/lib
-  emulator=("$tools/bin/qemu-x86_64" "$libs/ld-linux-x86-64.so.2" --library-path "$libs")
-  "$tools/bin/clang" --target=x86_64-linux-gnu "${strict[@]}" -fPIE -isystem "$(cc -print-file-name=include)" \
-    -isystem "/usr/include/$(cc -print-multiarch)" -isystem /usr/include -c "examples/c/$1.c" -o "$work/across.o" &&
-    "$tools/bin/ld.lld" -pie -dynamic-linker "$libs/ld-linux-x86-64.so.2" -o "$work/$1-c" "$libs/Scrt1.o" "$libs/crti.o" "$libs/crtbeginS.o" \
-      "$work/across.o" "$archive" "$libs/libc.so.6" "$libs/libc_nonshared.a" "$libs/libgcc.a" "$libs/crtendS.o" "$libs/crtn.o"
-}
-
 link_c() {
   if [ "$across" = yes ]; then
-    link_across "$1"
+    tools/x86.sh build no "$work/$1-c" "examples/c/$1.c" "$archive"
   else
     cc "$work/$1.o" "$archive" -o "$work/$1-c"
   fi
@@ -93,7 +80,10 @@ if [ $# -eq 0 ]; then
     fail "rt staticlib dzyunagor does not build the archive"
     exit "$bad"
   fi
-  [ "$(uname -m)" = x86_64 ] || across=yes
+  if [ "$(uname -m)" != x86_64 ]; then
+    across=yes
+    runner=(tools/x86.sh run)
+  fi
 fi
 
 for name in "${c[@]}"; do

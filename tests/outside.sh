@@ -19,7 +19,7 @@ try() {
 # shellcheck source=tests/reach.sh
 . tests/reach.sh
 for program in boundary records; do
-  need tests/x86.sh build yes "$built/$program" "tests/boundary/$program.c" "$archive"
+  need tools/x86.sh build yes "$built/$program" "tests/boundary/$program.c" "$archive"
 done
 
 # the longest part runs beside the others, and says what it has to say at the end
@@ -40,7 +40,7 @@ try "every wrong version is noticed" "$run/bite" --seed 1
 try "the steps agree with brute force over worlds" "$run/compare" --against steps --seed 2 --cases 20000
 try "random sites agree with brute force over worlds" "$run/compare" "${against[@]}" --seed 1 --cases 20000
 try "document 01's cases, truncations, changed bytes and limits" "$run/listed" "${against[@]}"
-try "the C boundary on guarded memory, under sanitizers" tests/x86.sh run "$built/boundary"
-try "rows of records and readers in any state at the C boundary" tests/x86.sh run "$built/records"
+try "the C boundary on guarded memory, under sanitizers" tools/x86.sh run "$built/boundary"
+try "rows of records and readers in any state at the C boundary" tools/x86.sh run "$built/records"
 try "damaged files and bad arguments are refused as document 01 says" end_of_damage
 exit "$failed"

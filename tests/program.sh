@@ -8,7 +8,7 @@ program=$PWD/target/bin/cleaner
   echo "program: target/bin/cleaner is not there: rt check cleaner builds it"
   exit 1
 }
-x86=$PWD/tests/x86.sh
+x86=$PWD/tools/x86.sh
 work=$(mktemp -d)
 trap 'rm -rf "$work"' EXIT
 bad=0

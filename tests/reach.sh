@@ -22,6 +22,6 @@ if [ "$(uname -m)" = x86_64 ]; then
   against=(--against library)
 else
   build_programs
-  need tests/x86.sh build no "$built/relay" tests/boundary/relay.c "$archive"
-  against=(--against relay --relay "$(tests/x86.sh command "$built/relay")")
+  need tools/x86.sh build no "$built/relay" tests/boundary/relay.c "$archive"
+  against=(--against relay --relay "$(tools/x86.sh command "$built/relay")")
 fi

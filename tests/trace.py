@@ -1,8 +1,13 @@
 #!/usr/bin/env python3
-"""Holds docs/TRACE.md, or the page that is named, to the repository; fails at a name that no longer exists and at a
-sentence that nothing holds.
+"""Holds docs/TRACE.md to the repository and to the customer's documents; fails at a name that no longer exists, at a sentence
+that nothing holds, and at one that is quoted wrongly or left out.
 
-A sentence is a quoted line, `> ..`. The lines after it, up to the next quote or heading, say what holds it:
+    tests/trace.py [PAGE]     another page than docs/TRACE.md
+
+The documents lie in ../shared beside the project, or in the folder that DOCUMENTS names (`quotes.py` says how the page is held
+to them). Where there is no such folder, as beside a clone that stands alone, the page is held to the repository only.
+
+A sentence is quoted, `> ..`. The lines after it, up to the next quote or heading, say what holds it:
 
     - definition `name` `name` (number/specs/Number.antt)
     - theorem `name` (..)
@@ -11,15 +16,22 @@ A sentence is a quoted line, `> ..`. The lines after it, up to the next quote or
 
 The names before a path in brackets are declared there (definition, theorem, code: a path under crates/) or stand there
 (test, document: a path under the root). A wrong version is CRATE/EDIT of crates/CRATE/must-fail/EDIT.edit.
+A line `<!-- .. -->` is not read.
 Every public operation has a heading `### dzy_..` with its promise, the theorem that it leaves one answer, and three
-wrong versions or answers at least; every wrong version of the repository stands somewhere. docs/EXCEPTIONS.md lists every
+wrong versions or answers at least, and is tied to its promise in crates/face/specs/Face.antt; every wrong version of the repository stands somewhere. docs/EXCEPTIONS.md lists every
 public function with a `requires`.
 """
+import os
 import pathlib
 import re
 import sys
 
+sys.dont_write_bytecode = True
+import quotes  # noqa: E402
+import sources  # noqa: E402
+
 ROOT = pathlib.Path(__file__).resolve().parent.parent
+DOCUMENTS = pathlib.Path(os.environ.get("DOCUMENTS", ROOT.parent / "shared"))
 KINDS = ("definition", "theorem", "code", "wrong version", "test", "document")
 PART = re.compile(r"`([^`]+)`|\(([^)\s]+)\)")
 bad = []
@@ -35,15 +47,6 @@ def text_of(path, known={}):
     return known[path]
 
 
-def declares(text, name):
-    """A declaration of antt, or a constant, function or type of Rattle."""
-    at = re.escape(name)
-    antt = rf"(?m)^ *(?:abbrev |unfoldable |pub )*(?:record |data )?{at}(?: [^\n]*)? (?::|where)"
-    several = rf"(?m)^ *(?:\S+ )*{at}(?: \S+)* :"
-    rattle = rf"\b(?:const|fn|struct|enum) {at}\b"
-    return any(re.search(p, text) for p in (antt, several, rattle))
-
-
 def stands(text, name):
     """The name as a word of its own, or the words as they are."""
     return re.search(rf"(?<!\w){re.escape(name)}(?!\w)", text) is not None
@@ -56,7 +59,7 @@ def check_names(line, kind, names, path):
         fault(line, f"no file {path}")
         return
     for name in names:
-        held = declares(text, name) if kind in ("definition", "theorem", "code") else stands(text, name)
+        held = name in sources.names_of(text, path.endswith(".rt")) if under != ROOT else stands(text, name)
         if not held:
             fault(line, f"no {kind} {name} in {path}")
 
@@ -89,8 +92,8 @@ def blocks(lines):
     """Each quote or operation's heading with its line, and the items under it with theirs."""
     here = None
     for number, line in enumerate(lines, 1):
-        if line.startswith("> ") or line.startswith("### "):
-            if line.startswith("> ") and lines[number - 2].startswith("> "):
+        if line.startswith((">", "### ")):
+            if line.startswith(">") and lines[number - 2].startswith(">"):
                 continue
             if here:
                 yield here
@@ -129,11 +132,24 @@ def check_exceptions():
         bad.append(f"docs/EXCEPTIONS.md: {crate} {name} has a `requires` and is not listed, or is listed and has none")
 
 
+def check_quotes(lines):
+    """The page's sentences are the documents'."""
+    if not DOCUMENTS.is_dir():
+        print(f"the sentences were not held to the documents: there is no folder {DOCUMENTS.name} beside the project")
+        return
+    due, missing = quotes.due_sections(DOCUMENTS)
+    for name in missing:
+        bad.append(f"no document {name} in the folder {DOCUMENTS.name}")
+    for line, what in quotes.differences(lines, due) if not missing else ():
+        fault(line, what)
+
+
 def main():
     check_exceptions()
     edits, operations, sentences = set(), {}, 0
     page = pathlib.Path(sys.argv[1]) if len(sys.argv) > 1 else ROOT / "docs/TRACE.md"
     lines = page.read_text(encoding="utf-8").split("\n")
+    check_quotes(lines)
     for number, head, items in blocks(lines):
         kinds = [check_item(line, item, edits) for line, item in items]
         if head.startswith("### "):
@@ -150,6 +166,9 @@ def main():
     public = set(re.findall(r'extern "C" fn (\w+)', face))
     if public != set(operations):
         bad.append(f"docs/TRACE.md: operations that differ from the face: {sorted(public ^ set(operations))}")
+    tied = set(re.findall(r"Keeps (dzy_\w+)\.ended", (ROOT / "crates/face/specs/Face.antt").read_text(encoding="utf-8")))
+    if public != tied:
+        bad.append(f"crates/face/specs/Face.antt: operations that differ from the face: {sorted(public ^ tied)}")
     all_edits = {f"{p.parent.parent.name}/{p.stem}" for p in ROOT.glob("crates/*/must-fail/*.edit")}
     bad.extend(f"docs/TRACE.md: wrong version {name} holds no sentence" for name in sorted(all_edits - edits))
     print("\n".join(bad + [f"{sentences} sentences, {len(operations)} operations, {len(edits)} wrong versions, {len(bad)} faults"]))

@@ -3,24 +3,14 @@
 It takes the readers of tools/site and adds what follows from the rules, marks, partners, answers and the room of lent
 memory. Every operation gives its result or raises Refusal(number, side, place).
 """
-import importlib.machinery
-import importlib.util
 import os
 import sys
 
 sys.dont_write_bytecode = True
 ROOT = os.path.dirname(os.path.dirname(os.path.dirname(os.path.abspath(__file__))))
+sys.path.insert(0, os.path.join(ROOT, "tools"))
+from dzysite import files, kinds
 
-
-def load_site():
-    loader = importlib.machinery.SourceFileLoader("site_tool", os.path.join(ROOT, "tools", "site"))
-    module = importlib.util.module_from_spec(importlib.util.spec_from_loader("site_tool", loader))
-    sys.modules["site_tool"] = module
-    loader.exec_module(module)
-    return module
-
-
-site = load_site()
 CALL = 2
 KEPT, ALONE, DISPUTED = 0, 1, 2
 NO_PARTNER = 65535
@@ -35,9 +25,9 @@ class Refusal(Exception):
 def read(rules, bundle=None):
     """Concepts, roles, rules and facts; rules are judged before the bundle."""
     try:
-        concepts, roles, rule_list = site.read_rules(rules)
-        facts = None if bundle is None else site.read_bundle(bundle, concepts, roles)
-    except site.Refused as refused:
+        concepts, roles, rule_list = files.read_rules(rules)
+        facts = None if bundle is None else files.read_bundle(bundle, concepts, roles)
+    except kinds.Refused as refused:
         raise Refusal(refused.number, refused.side, refused.place) from None
     return concepts, roles, rule_list, facts
 
@@ -166,7 +156,7 @@ def answer(head, facts, node, place):
 def has(rules, bundle, code, thing):
     """The number of the fact that says yes, or None."""
     concepts, roles, rule_list, facts = read(rules, bundle)
-    if not site.concept_known(concepts, roles, code):
+    if not files.concept_known(concepts, roles, code):
         raise Refusal(5, CALL, 0)
     if thing > 65535:
         raise Refusal(3, CALL, 0)
@@ -183,7 +173,7 @@ def joins(rules, bundle, code, from_, to):
 
 
 def bundle_of(facts):
-    return site.write_bundle(site.Site(facts=facts))
+    return files.write_bundle(kinds.Site(facts=facts))
 
 
 def write_kept(rules, bundle, room):
@@ -228,10 +218,10 @@ def reader_next(data, at):
     if at >= len(data):
         return None, at
     try:
-        predicate, after = site.number_at(data, at, 1)
-        subject, after = site.number_at(data, after, 1)
-        object_, after = (0, after) if predicate < 64 else site.number_at(data, after, 1)
-    except site.Refused as refused:
+        predicate, after = files.number_at(data, at, 1)
+        subject, after = files.number_at(data, after, 1)
+        object_, after = (0, after) if predicate < 64 else files.number_at(data, after, 1)
+    except kinds.Refused as refused:
         raise Refusal(refused.number, refused.side, refused.place) from None
     return (predicate, subject, object_), after
 

@@ -35,7 +35,7 @@ module _ (h : Head) (s : List ℕ) where
   concept-object (of-concept is zero-object place-is) e = zero-object
   concept-object (of-role is there) e = let z : _≡_ {A = ℕ} 0 1 = cc in absurd (omega arith)
 
-  pub lawful-fact : {at : ℕ} {f : Fact} {next : ℕ} → FactThere (predicateKnown h) s at f next → LawfulFact h f
+  lawful-fact : {at : ℕ} {f : Fact} {next : ℕ} → FactThere (predicateKnown h) s at f next → LawfulFact h f
   lawful-fact {at} {f} {next} t =
       record {
         known = t .holds;

@@ -1,20 +1,23 @@
 -- What a pass over some records finds: the first fault is that of `recordsFrom`, under rules within their limits.
 use Prim.Native.Nat.{ℕ, zero, suc, _+_, _≤_, _<_}
 use mathlib.Core.Path.{_≡_, refl, sym, ap, _∙_}
-use mathlib.Core.Bool.{Bool, true, false, cond}
+use mathlib.Core.Bool.{Bool, true, false, cond, _&&_, not}
 use mathlib.Core.List.{List, [], _∷_}
 use lib.ListN.{length}
-use lib.Dec.{ltb, leb}
+use lib.Dec.{ltb, leb, eqb}
 use native.Mathlib.Omega.{arith}
-use borrow.Author.Tests.{lt-ltb, lt-leb, leb-false, ne-eqb}
+use borrow.Author.Tests.{lt-ltb, le-leb, lt-leb, leb-false, eq-eqb, ne-eqb}
 use Rattle.number.specs.Answer.{Answer, refusal}
 use Rattle.number.specs.Answer.Answer.{gives, refuses}
 use Rattle.number.proofs.Writing.{picked}
 use Rattle.site.specs.declared.fact.Fact.{Fact}
-use Rattle.site.specs.Limits.{mostFacts, mostNumber, mostRoles}
+use Rattle.site.specs.Kinds.{ofConcept}
+use Rattle.site.specs.Limits.{mostFacts, mostNumber, mostRoles, mostThing}
 use Rattle.rules.specs.declared.head.Head.{Head}
-use Rattle.bundle.specs.Bundle.{Last, factBytes, predicateKnown}
+use Rattle.bundle.specs.Bundle.{Last, ascends, factBytes, predicateKnown}
 use Rattle.bundle.specs.Bundle.Last.{after}
+use Rattle.bundle.specs.Lawful.{LawfulFact, LawfulFrom}
+use Rattle.bundle.specs.Lawful.LawfulFrom.{done, next as one-more}
 use Rattle.bundle.specs.Records.{recordFault, recordsFrom}
 use Rattle.bundle.specs.Told.{lastOf, afterFact}
 use Rattle.bundle.specs.Pushed.{faultOf, stopped, counted, judged, settled, placed, stateAfter}
@@ -45,6 +48,30 @@ module _ (h : Head) (few : h .roles ≤ mostRoles) where
 pub data Sound (h : Head) : Last → List Fact → Type 0 where
   no-more : {last : Last} → Sound h last []
   sound : {last : Last} {f : Fact} {fs : List Fact} → faultOf h last f ≡ 0 → Sound h (after f) fs → Sound h last (f ∷ fs)
+
+-- lawful facts are pushed without a fault
+module _ (h : Head) where
+  no-stray : (f : Fact) → LawfulFact h f → (t : Bool) → ofConcept f ≡ t → (ofConcept f && not (eqb (f .object) 0)) ≡ false
+  no-stray f l true e = rw (e, eq-eqb (f .object) 0 (l .no-object e))
+  no-stray f l false e = rw e
+
+  lawful-fault : (last : Last) (f : Fact) → LawfulFact h f → f .predicate ≤ mostNumber → ascends last f ≡ true → faultOf h last f ≡ 0
+  unfolding faultOf recordFault
+  lawful-fault last f l low up =
+      rw (
+        le-leb (f .predicate) mostNumber low,
+        l .known,
+        no-stray f l (ofConcept f) refl,
+        le-leb (f .subject) mostThing (l .subject-within),
+        le-leb (f .object) mostThing (l .object-within),
+        up,
+      )
+
+  pub lawful-sound : {last : Last} {fs : List Fact} → h .roles ≤ mostRoles → LawfulFrom h last fs → Sound h last fs
+  lawful-sound few done = no-more
+  lawful-sound few (one-more {last = last} {f = f} l up rest) =
+      let low : f .predicate < 96 = declared-low (h .concepts) (h .roles) (f .predicate) few (l .known) in
+      sound (lawful-fault last f l (omega arith) up) (lawful-sound few rest)
 
 module _ (h : Head) (room : ℕ) where
   -- a writing that has stopped stays

@@ -5,11 +5,11 @@ pub mod FactBytes
 pub mod Faults
 pub mod Left
 pub mod Longest
+pub mod OfOpened
 pub mod OneAnswer
 pub mod Pushing
 pub mod Reading
 pub mod Refusals
-pub mod Rewriting
 pub mod RoundTrips
 pub mod Runs
 pub mod Storing

@@ -8,15 +8,18 @@ use Rattle.number.specs.Answer.Answer.{gives, refuses}
 use Rattle.number.proofs.One.{one, undone, Same}
 use Rattle.site.specs.declared.fact.Fact.{Fact}
 use Rattle.rules.specs.declared.head.Head.{Head}
-use Rattle.bundle.specs.Again.{WritesAgain}
 use Rattle.bundle.specs.Bundle.{factAt, checkBundle}
-use Rattle.bundle.specs.Pushed.{Pushes, wroteTold}
+use Rattle.bundle.specs.Opened.{opening, openedTold}
+use Rattle.bundle.specs.Pushed.{Pushes, wroteTold, answerOf}
 use Rattle.bundle.specs.Told.{factTold, bundleTold}
 use Rattle.bundle.specs.declared.facts.Facts.{Facts}
 use Rattle.bundle.specs.declared.one.FactRead.{FactRead}
 use Rattle.bundle.specs.declared.one.FactRead.the-variants.{Read as ReadFact, Refused as RefusedFact}
 use Rattle.bundle.specs.declared.check.BundleRead.{BundleRead}
 use Rattle.bundle.specs.declared.check.BundleRead.the-variants.{Accepted, Refused as RefusedBundle}
+use Rattle.bundle.specs.declared.open.Inputs.{Inputs}
+use Rattle.bundle.specs.declared.open.Opened.{Opened}
+use Rattle.bundle.specs.declared.open.Opened.the-variants.{Accepted as BothRead, Refused as NotRead}
 use Rattle.bundle.specs.declared.writing.Writing.{Writing}
 use Rattle.bundle.specs.declared.writing.BundleWrote.{BundleWrote}
 use Rattle.bundle.specs.declared.writing.BundleWrote.the-variants.{Written, Refused}
@@ -37,6 +40,14 @@ pub bundle-told-apart : (r r′ : BundleRead) → bundleTold r ≡ bundleTold r�
 unfolding bundle-back
 bundle-told-apart = undone bundleTold bundle-back (elim [ Accepted b ↦ refl | RefusedBundle r ↦ refl ])
 
+opened-back : Answer Inputs → Opened
+opened-back (gives i) = BothRead i
+opened-back (refuses r) = NotRead r
+
+pub opened-told-apart : (r r′ : Opened) → openedTold r ≡ openedTold r′ → r ≡ r′
+unfolding opened-back
+opened-told-apart = undone openedTold opened-back (elim [ BothRead i ↦ refl | NotRead r ↦ refl ])
+
 wrote-back : Answer ℕ → BundleWrote
 wrote-back (gives n) = Written n
 wrote-back (refuses r) = Refused r
@@ -52,11 +63,12 @@ one-fact known s at r r′ e e′ = fact-told-apart r r′ (one e e′)
 pub one-bundle : (h : Head) (s : List ℕ) (r r′ : BundleRead) → bundleTold r ≡ checkBundle h s → bundleTold r′ ≡ checkBundle h s → r ≡ r′
 one-bundle h s r r′ e e′ = bundle-told-apart r r′ (one e e′)
 
+pub one-opening : (rules bundle : List ℕ) (r r′ : Opened) → openedTold r ≡ opening rules bundle → openedTold r′ ≡ opening rules bundle → r ≡ r′
+one-opening rules bundle r r′ e e′ = opened-told-apart r r′ (one e e′)
+
 -- and so does writing, of the answer and of the lent memory
-pub one-writing : (h : Head) (s out : List ℕ) (r r₂ : BundleWrote) (out′ out₂′ : List ℕ) → WritesAgain h s out r out′ → WritesAgain h s out r₂ out₂′
-    → Same r r₂ out′ out₂′
-one-writing h s out r r₂ out′ out₂′ w w₂ =
-    record { answer = wrote-told-apart r r₂ (one (w .answer) (w₂ .answer)); memory = one (w .memory) (w₂ .memory) }
+pub one-answer : (w : Writing) (r r′ : BundleWrote) → wroteTold r ≡ answerOf w → wroteTold r′ ≡ answerOf w → r ≡ r′
+one-answer w r r′ e e′ = wrote-told-apart r r′ (one e e′)
 
 pub one-push : (h : Head) (out : List ℕ) (w : Writing) (f : Fact) (r r₂ : Writing) (out′ out₂′ : List ℕ) → Pushes h out w f r out′ → Pushes h out w f r₂ out₂′
     → Same r r₂ out′ out₂′

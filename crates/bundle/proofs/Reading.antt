@@ -24,16 +24,13 @@ use Rattle.site.specs.Told.{endTold, endRefusal}
 use Rattle.rules.specs.declared.head.Head.{Head}
 use Rattle.bundle.specs.Bundle.{factAt, ascends, factsFrom, predicateKnown, checkBundle}
 use Rattle.bundle.specs.Bundle.Last.{none, after}
-use Rattle.bundle.specs.Told.{factTold, factRefusal, stepTold, stepRefusal, bundleRefusal, factRest, lastOf, beforeFirst, afterFact, stepFrom}
+use Rattle.bundle.specs.Told.{factTold, factRefusal, stepTold, stepRefusal, factRest, lastOf, beforeFirst, afterFact, stepFrom}
 use Rattle.bundle.specs.declared.before.Before.{Before}
-use Rattle.bundle.specs.declared.facts.Facts.{Facts}
 use Rattle.bundle.specs.declared.one.FactRead.{FactRead}
 use Rattle.bundle.specs.declared.one.FactRead.the-variants.{Read as ReadFact, Refused as RefusedFact}
 use Rattle.bundle.specs.declared.walk.Walk.{Walk}
 use Rattle.bundle.specs.declared.walk.Step.{Step}
 use Rattle.bundle.specs.declared.walk.Step.the-variants.{On, Refused as RefusedStep}
-use Rattle.bundle.specs.declared.check.BundleRead.{BundleRead}
-use Rattle.bundle.specs.declared.check.BundleRead.the-variants.{Accepted}
 
 -- what was read has no refusal
 pub fact-no-refusal : (a : FactRead) (f : Fact) (next : ℕ) → a ≡ ReadFact f next → refusal 0 0 0 ≡ factRefusal a
@@ -41,9 +38,6 @@ fact-no-refusal a f next is = rw is
 
 pub step-no-refusal : (a : Step) (w : Walk) → a ≡ On w → refusal 0 0 0 ≡ stepRefusal a
 step-no-refusal a w is = rw is
-
-pub bundle-no-refusal : (a : BundleRead) (b : Facts) → a ≡ Accepted b → refusal 0 0 0 ≡ bundleRefusal a
-bundle-no-refusal a b is = rw is
 
 -- a number of the bundle that was read
 module _ (s : List ℕ) (at : ℕ) (n : Num) (is : told n ≡ numberAt s at mostThing 1) where
@@ -199,4 +193,4 @@ module _ (h : Head) (s : List ℕ) (n : Num) (is : told n ≡ countAt s 0 mostFa
       unfolding checkBundle
       bundle-accepted at is-at = rw (← is, read, ← walked, is-end, ← ended, is-at)
 
-pub ruleset reading = (fact-no-refusal, step-no-refusal, bundle-no-refusal, subject-refused, predicate-refused, predicate-unknown, predicate-known, predicate-any, concept-read, object-refused, role-read, first-before, after-none, after-last, step-refused, step-on, step-order, walk-starts, walk-refused, walk-on, walk-ends, count-refused, facts-refused, end-refused, bundle-accepted, needs)
+pub ruleset reading = (fact-no-refusal, step-no-refusal, subject-refused, predicate-refused, predicate-unknown, predicate-known, predicate-any, concept-read, object-refused, role-read, first-before, after-none, after-last, step-refused, step-on, step-order, walk-starts, walk-refused, walk-on, walk-ends, count-refused, facts-refused, end-refused, bundle-accepted, needs)

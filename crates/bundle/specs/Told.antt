@@ -46,11 +46,6 @@ abbrev pub bundleTold : BundleRead → Answer Facts
 bundleTold (Accepted facts) = gives facts
 bundleTold (RefusedBundle r) = refuses r
 
--- the refusal in it; there is none in an accepted bundle
-abbrev pub bundleRefusal : BundleRead → Refusal
-bundleRefusal (Accepted facts) = refusal 0 0 0
-bundleRefusal (RefusedBundle r) = r
-
 -- "subject, and for a role the object": what follows a fact's predicate
 unfoldable pub factRest : List ℕ → ℕ → ℕ → Answer (Read Fact)
 factRest s predicate at =

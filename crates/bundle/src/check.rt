@@ -1,7 +1,7 @@
 // Reading a whole bundle: its count, its facts, and nothing after them.
 ghost use mathlib.Core.Path.{_≡_};
 ghost use Rattle.bundle.specs.Bundle.{checkBundle};
-ghost use Rattle.bundle.specs.Told.{bundleTold, bundleRefusal};
+ghost use Rattle.bundle.specs.Told.{bundleTold};
 use crate::facts::Facts;
 use crate::walk::walk_facts;
 use number::Num;
@@ -16,22 +16,6 @@ use site::read_end;
 pub enum BundleRead {
     Accepted(Facts),
     Refused(Refusal),
-}
-
-impl BundleRead {
-    // The refusal, where there is one.
-    pub fn refusal(self) -> Refusal
-        ensures { λ r. ⌜ r ≡ bundleRefusal self ⌝ }
-    {
-        match self {
-            BundleRead::Accepted(_) => Refusal {
-                number: 0,
-                side: 0,
-                place: 0,
-            },
-            BundleRead::Refused(r) => r,
-        }
-    }
 }
 
 pub fn check_bundle(s: &[u8], head: Head) -> BundleRead

@@ -1,15 +1,13 @@
 // Reading and writing a bundle of facts.
-mod again;
 mod before;
 mod check;
 mod facts;
 mod one;
+mod open;
 mod store;
 mod walk;
 mod writing;
 
-pub use again::push_facts;
-pub use again::write_bundle_again;
 pub use before::Before;
 pub use check::BundleRead;
 pub use check::check_bundle;
@@ -17,6 +15,9 @@ pub use facts::Facts;
 pub use one::FactRead;
 pub use one::any_fact_at;
 pub use one::fact_at;
+pub use open::Inputs;
+pub use open::Opened;
+pub use open::open_inputs;
 pub use store::fact_size;
 pub use store::put_number;
 pub use store::write_fact;

@@ -22,11 +22,7 @@ impl FactRead {
         ensures { λ r. ⌜ r ≡ factRefusal self ⌝ }
     {
         match self {
-            FactRead::Read(_, _) => Refusal {
-                number: 0,
-                side: 0,
-                place: 0,
-            },
+            FactRead::Read(_, _) => Refusal::NONE,
             FactRead::Refused(r) => r,
         }
     }

@@ -29,11 +29,7 @@ impl Step {
         ensures { λ r. ⌜ r ≡ stepRefusal self ⌝ }
     {
         match self {
-            Step::On(_) => Refusal {
-                number: 0,
-                side: 0,
-                place: 0,
-            },
+            Step::On(_) => Refusal::NONE,
             Step::Refused(r) => r,
         }
     }

@@ -26,36 +26,45 @@ use Rattle.clean.proofs.OfWalks.{Seeking, seek-start, seek-ends, seek-s
 abbrev no-fact : Fact
 no-fact = record { predicate = 0; subject = 0; object = 0 }
 
--- the fact of a number is the one so many further on
-pub record Picking (whole : List Fact) (number : ℕ) (s : List ℕ) (left at skip : ℕ) : Type 0 where
-  pub same : getD whole number no-fact ≡ getD (factsIn s left at) skip no-fact
-  pub inside : skip < left
+-- the fact of a number is the one so many further on, however many facts come after it
+pub record Picking (s : List ℕ) (start number at skip : ℕ) : Type 0 where
+  pub same : (more : ℕ) → getD (factsIn s (number + 1 + more) start) number no-fact ≡ getD (factsIn s (skip + 1 + more) at) skip no-fact
 
-pub pick-start : (s : List ℕ) (n at number : ℕ) → number < n → Picking (factsIn s n at) number s n at number
-pick-start s n at number h = record { same = refl; inside = h }
+pub pick-start : (s : List ℕ) (at number : ℕ) → Picking s at number at number
+pick-start s at number = record { same = λ more. refl }
 
-module _ (whole : List Fact) (number : ℕ) (s : List ℕ) (left at skip : ℕ) (so : Picking whole number s left at skip) where
-  pub some-left : 1 ≤ left
-  some-left = omega (arith, so .inside)
-
+module _ (s : List ℕ) (start number at skip : ℕ) (so : Picking s start number at skip) where
   module _ (e : FactRead) (is : factTold e ≡ factAt (λ _. true) s at) where
-    pub pick-stops : (r : Refusal) → e ≡ NoFact r → (f : Fact) → f ≡ no-fact → f ≡ getD whole number no-fact
-    pick-stops r stopped f is-f =
-        is-f ∙ sym (so .same ∙ ap (λ (l : List Fact). getD l skip no-fact) (facts-stop s left at (omega (arith, so .inside)) e is r stopped))
+    module _ (r : Refusal) (stopped : e ≡ NoFact r) (f : Fact) (is-f : f ≡ no-fact) (n : ℕ) (inside : number < n) where
+      pub pick-stops : f ≡ getD (factsIn s n start) number no-fact
+      pick-stops =
+          let more = n - (number + 1) in
+          let all : number + 1 + more ≡ n = omega arith in
+          is-f
+          ∙ sym (so .same more ∙ ap (λ (l : List Fact). getD l skip no-fact) (facts-stop s (skip + 1 + more) at (omega arith) e is r stopped))
+          ∙ ap (λ (k : ℕ). getD (factsIn s k start) number no-fact) all
 
     module _ (f : Fact) (next : ℕ) (read : e ≡ ReadFact f next) where
-      found : getD whole number no-fact ≡ getD (f ∷ factsIn s (left - 1) next) skip no-fact
-      found = so .same ∙ ap (λ (l : List Fact). getD l skip no-fact) (facts-more s left at (omega (arith, so .inside)) e is f next read)
+      found : (more : ℕ) → getD (factsIn s (number + 1 + more) start) number no-fact ≡ getD (f ∷ factsIn s (skip + 1 + more - 1) next) skip no-fact
+      found more = so .same more ∙ ap (λ (l : List Fact). getD l skip no-fact) (facts-more s (skip + 1 + more) at (omega arith) e is f next read)
 
-      pub pick-on : 0 < skip → Picking whole number s (left - 1) next (skip - 1)
+      pub pick-on : 0 < skip → Picking s start number next (skip - 1)
       pick-on h =
           let one : skip ≡ suc (skip - 1) = omega arith in
-          record { same = found ∙ ap (λ (k : ℕ). getD (f ∷ factsIn s (left - 1) next) k no-fact) one; inside = omega (arith, so .inside) }
+          record {
+            same = λ more.
+                let fewer : skip + 1 + more - 1 ≡ skip - 1 + 1 + more = omega arith in
+                found more ∙ ap (λ (k : ℕ). getD (f ∷ factsIn s (skip + 1 + more - 1) next) k no-fact) one
+                ∙ ap (λ (k : ℕ). getD (factsIn s k next) (skip - 1) no-fact) fewer;
+          }
 
-      pub pick-found : skip ≤ 0 → f ≡ getD whole number no-fact
-      pick-found over =
+      pub pick-found : skip ≤ 0 → (n : ℕ) → number < n → f ≡ getD (factsIn s n start) number no-fact
+      pick-found over n inside =
+          let more = n - (number + 1) in
+          let all : number + 1 + more ≡ n = omega arith in
           let none : skip ≡ 0 = omega arith in
-          sym (found ∙ ap (λ (k : ℕ). getD (f ∷ factsIn s (left - 1) next) k no-fact) none)
+          sym (found more ∙ ap (λ (k : ℕ). getD (f ∷ factsIn s (skip + 1 + more - 1) next) k no-fact) none)
+          ∙ ap (λ (k : ℕ). getD (factsIn s k start) number no-fact) all
 
 -- a kept fact that supports
 module _ (t : Follows) (whole : List Fact) (f : Fact) (b supported : Bool) (is : b ≡ supported) where
@@ -90,4 +99,4 @@ module _ (included excluded : List ℕ) (functional : ℕ) (bundle : List ℕ) (
         support-on t = seek-on (facts .count) supporting (factsOf bundle facts) bundle (facts .count) i left at so more e is f next read (sym is-r ∙ t)
 
 pub ruleset asking =
-    (pick-start, some-left, pick-stops, pick-on, pick-found, keeps-so, keeps-not, seek-start, support-ends, support-stops, support-found, support-on, needs)
+    (pick-start, pick-stops, pick-on, pick-found, keeps-so, keeps-not, seek-start, support-ends, support-stops, support-found, support-on, needs)

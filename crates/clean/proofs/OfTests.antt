@@ -10,7 +10,11 @@ use native.Mathlib.Omega.{arith}
 use borrow.Author.Tests.{lt-ltb, le-ltb, eq-eqb, ne-eqb, ltb-false, eqb-true, not-true}
 use borrow.Author.Needs.{needs}
 use Rattle.site.specs.declared.fact.Fact.{Fact}
+use Rattle.site.specs.declared.nodes.Role.{Role}
 use Rattle.site.specs.Kinds.{Node, ofConcept, sameNode}
+use Rattle.site.specs.Kinds.BasicRole.{forward, inverse}
+use Rattle.site.specs.Codes.{roleCode}
+use Rattle.site.specs.Told.{Code}
 use Rattle.site.proofs.Lists.{and-left, and-right, is-false, true-not-false}
 use Rattle.site.specs.Lists.{any}
 use Rattle.follows.specs.Bits.{has as hasBit, bitOf}
@@ -84,16 +88,21 @@ module _ (functional : ℕ) (f g : Fact) where
         unfolding splitCoded
         split-3 h = rw (ne-eqb (f .predicate) (g .predicate) h, and-false)
 
-        module _ (same : f .predicate ≡ g .predicate) (code : ℕ) (is-code : code ≡ 2 * (f .predicate - 64)) (r : Bool)
-            (is-r : r ≡ (hasRole functional code && eqb (f .subject) (g .subject) && not (eqb (f .object) (g .object)))) where
+        module _ (same : f .predicate ≡ g .predicate) (k : Role) (is-k : k ≡ record { number = f .predicate - 64 }) (q : ℕ) (is-q : Code (roleCode (forward (k .number))) q) (r : Bool)
+            (is-r : r ≡ (hasRole functional q && eqb (f .subject) (g .subject) && not (eqb (f .object) (g .object)))) where
+          forward-is : q ≡ 2 * (f .predicate - 64)
+          forward-is = is-q .is ∙ ap (λ (j : Role). 2 * j .number) is-k
+
           pub split-4 : r ≡ true → true ≡ splitCoded functional f g
           unfolding splitCoded
-          split-4 t = rw (← is-b, f-role, ← is-c, g-role, eq-eqb (f .predicate) (g .predicate) same, ← is-code, ← is-r, t)
+          split-4 t = rw (← is-b, f-role, ← is-c, g-role, eq-eqb (f .predicate) (g .predicate) same, ← forward-is, ← is-r, t)
 
-          pub split-5 : r ≡ false → (r₂ : Bool) → r₂ ≡ (hasRole functional (code + 1) && eqb (f .object) (g .object) && not (eqb (f .subject) (g .subject)))
-              → r₂ ≡ splitCoded functional f g
+          pub split-5 : r ≡ false → (q₂ : ℕ) → Code (roleCode (inverse (k .number))) q₂ → (r₂ : Bool)
+              → r₂ ≡ (hasRole functional q₂ && eqb (f .object) (g .object) && not (eqb (f .subject) (g .subject))) → r₂ ≡ splitCoded functional f g
           unfolding splitCoded
-          split-5 no-r r₂ e = rw (← is-b, f-role, ← is-c, g-role, eq-eqb (f .predicate) (g .predicate) same, ← is-code, ← is-r, no-r) e
+          split-5 no-r q₂ is-q₂ r₂ e =
+              let inverse-is : q₂ ≡ q + 1 = is-q₂ .is ∙ ap (λ (n : ℕ). n + 1) (sym (is-q .is)) in
+              rw (← is-b, f-role, ← is-c, g-role, eq-eqb (f .predicate) (g .predicate) same, ← forward-is, ← inverse-is, ← is-r, no-r) e
 
 -- far facts
 module _ (f g : Fact) where

@@ -1,4 +1,6 @@
 -- "Marks, partners, answers", in document 01's order: alone, clash, marks, partners, counts, questions, the kept facts.
+-- `isIncluded` and `isExcluded` are the tables that compute; that for lawful rules they are `Included` and `Excluded` by the steps is `decides`
+-- (follows/proofs/Decided.antt).
 use Prim.Native.Nat.{ℕ}
 use mathlib.Core.Bool.{Bool, false, cond, _&&_, _||_, not}
 use mathlib.Core.List.{List, map}

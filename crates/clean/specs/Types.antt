@@ -1,4 +1,6 @@
 -- The types of a fact. A concept's type at a thing is placed at the pair of that thing and itself, so that things and pairs are one case.
+-- A concept's type and a role's type never meet, though both may stand at (a,a): what follows relates concepts with concepts and roles with
+-- roles only, `included-sort` and `excluded-sort` (follows/proofs/Laws.antt).
 use Prim.Native.Nat.{ℕ, _-_}
 use mathlib.Core.Bool.{cond}
 use mathlib.Core.List.{List, [], _∷_}

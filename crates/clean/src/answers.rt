@@ -29,9 +29,9 @@ impl Counts {
     {
         Counts {
             facts: self.facts + 1,
-            kept: self.kept + one_if(mark, 0),
-            alone: self.alone + one_if(mark, 1),
-            disputed: self.disputed + one_if(mark, 2),
+            kept: self.kept + one_if(mark, Judged::KEPT),
+            alone: self.alone + one_if(mark, Judged::ALONE),
+            disputed: self.disputed + one_if(mark, Judged::DISPUTED),
         }
     }
 }
@@ -49,4 +49,13 @@ fn one_if(mark: u32, wanted: u32) -> u32
 pub struct Judged {
     pub mark: u32,
     pub partner: u32,
+}
+
+impl Judged {
+    // The marks: "0 kept, 1 alone, 2 disputed".
+    pub const KEPT: u32 = 0;
+
+    pub const ALONE: u32 = 1;
+
+    pub const DISPUTED: u32 = 2;
 }

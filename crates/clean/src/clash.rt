@@ -11,15 +11,15 @@ use crate::types::Typ;
 use crate::types::back_partner_type;
 use crate::types::back_role_type;
 use crate::types::concept_type;
-use crate::types::forward_code;
 use crate::types::partner_type;
 use crate::types::role_type;
+use follows::Table;
 use follows::get;
 use site::BasicRole;
 use site::Fact;
 
 // Two types at one place that a table relates.
-pub fn related(table: &[u64; 576], x: Typ, y: Typ) -> bool
+pub fn related(table: &Table, x: Typ, y: Typ) -> bool
     ensures { λ r. ⌜ r ≡ relatedAt (now (table .entry)) x y ⌝ }
 {
     if x.from != y.from {
@@ -32,7 +32,7 @@ pub fn related(table: &[u64; 576], x: Typ, y: Typ) -> bool
 }
 
 // A type that jars with some type of a fact.
-fn jar_with(excluded: &[u64; 576], x: Typ, g: Fact) -> bool
+fn jar_with(excluded: &Table, x: Typ, g: Fact) -> bool
     ensures { λ r. ⌜ r ≡ any (relatedAt (now (excluded .entry)) x) (codedTypes g) ⌝ }
 {
     if g.of_concept() {
@@ -51,7 +51,7 @@ fn jar_with(excluded: &[u64; 576], x: Typ, g: Fact) -> bool
 }
 
 // Some type of one fact that jars with some type of another.
-fn jar_facts(excluded: &[u64; 576], f: Fact, g: Fact) -> bool
+fn jar_facts(excluded: &Table, f: Fact, g: Fact) -> bool
     ensures { λ r. ⌜ r ≡ any (λ x. any (relatedAt (now (excluded .entry)) x) (codedTypes g)) (codedTypes f) ⌝ }
 {
     if f.of_concept() {
@@ -70,7 +70,7 @@ fn jar_facts(excluded: &[u64; 576], f: Fact, g: Fact) -> bool
 }
 
 // "Alone: two types of the fact (..) exclude each other." What is included and functional has no part in it.
-pub fn is_alone(excluded: &[u64; 576], f: Fact) -> bool
+pub fn is_alone(excluded: &Table, f: Fact) -> bool
     ensures { λ r. ⌜ r ≡ alone itself (bitsFollow [] (now (excluded .entry)) 0) f ⌝ }
 {
     jar_facts(excluded, f, f)
@@ -80,7 +80,7 @@ pub fn is_alone(excluded: &[u64; 576], f: Fact) -> bool
 fn is_functional(functional: u64, code: usize) -> bool
     ensures { λ r. ⌜ r ≡ hasRole functional code ⌝ }
 {
-    if code >= 64 {
+    if code >= BasicRole::COUNT as usize {
         return false;
     }
     (functional >> code) % 2 == 1
@@ -112,13 +112,21 @@ fn split_facts(functional: u64, f: Fact, g: Fact) -> bool
     if f.predicate != g.predicate {
         return false;
     }
-    let code = forward_code(f);
-    if splits(functional, code, f.subject, g.subject, f.object, g.object) {
+    let role = f.role();
+    let forward = role.forward();
+    if splits(
+        functional,
+        forward,
+        f.subject,
+        g.subject,
+        f.object,
+        g.object,
+    ) {
         return true;
     }
     splits(
         functional,
-        code + 1,
+        role.inverse(),
         f.object,
         g.object,
         f.subject,
@@ -143,7 +151,7 @@ fn are_far(f: Fact, g: Fact) -> bool
 }
 
 // Two facts that contradict each other, by their types or by a functional role.
-pub fn do_contradict(excluded: &[u64; 576], functional: u64, f: Fact, g: Fact) -> bool
+pub fn do_contradict(excluded: &Table, functional: u64, f: Fact, g: Fact) -> bool
     ensures { λ r. ⌜ r ≡ contradict itself (bitsFollow [] (now (excluded .entry)) functional) f g ⌝ }
 {
     if are_far(f, g) {

@@ -10,13 +10,14 @@ ghost use Rattle.clean.specs.Types.{itself};
 ghost use Rattle.clean.specs.Marks.{marked};
 ghost use Rattle.clean.specs.Keeping.{keptBytes, measureOf, measuredWith, SmallMeasure, StoresIf, StoredIf, StoredKept};
 ghost use Rattle.clean.specs.Coded.{bitsFollow};
-use crate::verdict::KEPT;
+use crate::answers::Judged;
 use crate::verdict::judge;
 use bundle::FactRead;
 use bundle::Facts;
 use bundle::any_fact_at;
 use bundle::fact_size;
 use bundle::write_fact;
+use follows::Table;
 use site::Fact;
 
 // How many facts are kept, and how many bytes they have.
@@ -42,15 +43,15 @@ impl Measure {
 }
 
 // Is a fact kept?
-fn is_kept(bundle: &[u8], facts: Facts, excluded: &[u64; 576], functional: u64, f: Fact) -> bool
+fn is_kept(bundle: &[u8], facts: Facts, excluded: &Table, functional: u64, f: Fact) -> bool
     requires { ⌜ facts .count ≤ mostFacts ⌝ }
     ensures { λ r. ⌜ r ≡ marked itself (bitsFollow [] (now (excluded .entry)) functional) (factsOf (now (bundle .entry)) facts) 0 f ⌝ }
 {
     let judged = judge(bundle, facts, excluded, functional, f);
-    judged.mark == KEPT
+    judged.mark == Judged::KEPT
 }
 
-pub fn measure_kept(bundle: &[u8], facts: Facts, excluded: &[u64; 576], functional: u64) -> Measure
+pub fn measure_kept(bundle: &[u8], facts: Facts, excluded: &Table, functional: u64) -> Measure
     requires { ⌜ facts .count ≤ mostFacts ⌝ }
     ensures { λ r. ⌜ r ≡ measureOf (bitsFollow [] (now (excluded .entry)) functional) (factsOf (now (bundle .entry)) facts) ⌝ }
 {
@@ -86,7 +87,7 @@ pub fn store_kept(
     start: usize,
     bundle: &[u8],
     facts: Facts,
-    excluded: &[u64; 576],
+    excluded: &Table,
     functional: u64,
 ) -> usize
     requires { ⌜ facts .count ≤ mostFacts ⌝ }

@@ -13,7 +13,6 @@ pub fn fact_number(bundle: &[u8], facts: Facts, number: u32) -> Fact
     ensures { λ r. ⌜ r ≡ getD (factsOf (now (bundle .entry)) facts) number (record { predicate = 0; subject = 0; object = 0 }) ⌝ }
 {
     let mut at = facts.start;
-    let mut left = facts.count;
     let mut skip = number;
     while 0 < skip {
         let passed = any_fact_at(bundle, at);
@@ -21,7 +20,6 @@ pub fn fact_number(bundle: &[u8], facts: Facts, number: u32) -> Fact
             return Fact::new(0, 0, 0);
         };
         at = next;
-        left -= 1;
         skip -= 1;
     }
     let got = any_fact_at(bundle, at);

@@ -14,9 +14,10 @@ use crate::verdict::judge;
 use bundle::FactRead;
 use bundle::Facts;
 use bundle::any_fact_at;
+use follows::Table;
 
 // "each the number of facts with that property"
-pub fn count_facts(bundle: &[u8], facts: Facts, excluded: &[u64; 576], functional: u64) -> Counts
+pub fn count_facts(bundle: &[u8], facts: Facts, excluded: &Table, functional: u64) -> Counts
     requires { ⌜ facts .count ≤ mostFacts ⌝ }
     ensures { λ r. ⌜ r ≡ counts itself (bitsFollow [] (now (excluded .entry)) functional) (factsOf (now (bundle .entry)) facts) ⌝ }
 {
@@ -40,7 +41,7 @@ pub fn count_facts(bundle: &[u8], facts: Facts, excluded: &[u64; 576], functiona
 pub fn mark_facts(
     bundle: &[u8],
     facts: Facts,
-    excluded: &[u64; 576],
+    excluded: &Table,
     functional: u64,
     marks: &mut [u8],
     partners: &mut [u16],

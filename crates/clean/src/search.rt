@@ -11,13 +11,11 @@ use crate::clash::is_alone;
 use bundle::FactRead;
 use bundle::Facts;
 use bundle::any_fact_at;
+use follows::Table;
 use site::Fact;
 
-// What stands for no partner.
-pub const NONE: u32 = 65535;
-
 // A fact that is not alone and contradicts another.
-fn disputes(excluded: &[u64; 576], functional: u64, f: Fact, g: Fact) -> bool
+fn disputes(excluded: &Table, functional: u64, f: Fact, g: Fact) -> bool
     ensures { λ r. ⌜ r ≡ (contradict itself (bitsFollow [] (now (excluded .entry)) functional) f g && not (alone itself (bitsFollow [] (now (excluded .entry)) 0) g)) ⌝ }
 {
     if do_contradict(excluded, functional, f, g) {
@@ -27,17 +25,11 @@ fn disputes(excluded: &[u64; 576], functional: u64, f: Fact, g: Fact) -> bool
 }
 
 // "the lowest-numbered fact it clashes with, or 65,535"
-pub fn lowest_clash(
-    bundle: &[u8],
-    facts: Facts,
-    excluded: &[u64; 576],
-    functional: u64,
-    f: Fact,
-) -> u32
+pub fn lowest_clash(bundle: &[u8], facts: Facts, excluded: &Table, functional: u64, f: Fact) -> u32
     ensures { λ r. ⌜ r ≡ partner itself (bitsFollow [] (now (excluded .entry)) functional) (factsOf (now (bundle .entry)) facts) f ⌝ }
 {
     if is_alone(excluded, f) {
-        return NONE;
+        return Fact::NO_PARTNER;
     }
     let mut at = facts.start;
     let mut left = facts.count;
@@ -45,7 +37,7 @@ pub fn lowest_clash(
     while 0 < left {
         let got = any_fact_at(bundle, at);
         let FactRead::Read(g, next) = got else {
-            return NONE;
+            return Fact::NO_PARTNER;
         };
         if disputes(excluded, functional, f, g) {
             return i;
@@ -54,5 +46,5 @@ pub fn lowest_clash(
         left -= 1;
         i += 1;
     }
-    NONE
+    Fact::NO_PARTNER
 }

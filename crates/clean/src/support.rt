@@ -8,6 +8,7 @@ ghost use Rattle.bundle.specs.Bundle.{factsOf};
 ghost use Rattle.clean.specs.Types.{itself};
 ghost use Rattle.clean.specs.Marks.{marked};
 ghost use Rattle.clean.specs.Coded.{bitsFollow, supportsCoded, supportIn};
+use crate::answers::Judged;
 use crate::clash::related;
 use crate::types::Typ;
 use crate::types::back_partner_type;
@@ -15,15 +16,15 @@ use crate::types::back_role_type;
 use crate::types::concept_type;
 use crate::types::partner_type;
 use crate::types::role_type;
-use crate::verdict::KEPT;
 use crate::verdict::judge;
 use bundle::FactRead;
 use bundle::Facts;
 use bundle::any_fact_at;
+use follows::Table;
 use site::Fact;
 
 // "one of whose types, at a or at the pair, is included in the asked code"
-fn supports(included: &[u64; 576], asked: Typ, f: Fact) -> bool
+fn supports(included: &Table, asked: Typ, f: Fact) -> bool
     ensures { λ r. ⌜ r ≡ supportsCoded (now (included .entry)) asked f ⌝ }
 {
     if f.of_concept() {
@@ -45,8 +46,8 @@ fn supports(included: &[u64; 576], asked: Typ, f: Fact) -> bool
 fn keeps(
     bundle: &[u8],
     facts: Facts,
-    included: &[u64; 576],
-    excluded: &[u64; 576],
+    included: &Table,
+    excluded: &Table,
     functional: u64,
     asked: Typ,
     f: Fact,
@@ -56,7 +57,7 @@ fn keeps(
 {
     if supports(included, asked, f) {
         let judged = judge(bundle, facts, excluded, functional, f);
-        return judged.mark == KEPT;
+        return judged.mark == Judged::KEPT;
     }
     false
 }
@@ -65,8 +66,8 @@ fn keeps(
 pub fn lowest_support(
     bundle: &[u8],
     facts: Facts,
-    included: &[u64; 576],
-    excluded: &[u64; 576],
+    included: &Table,
+    excluded: &Table,
     functional: u64,
     asked: Typ,
 ) -> u32

@@ -1,8 +1,10 @@
 // The types of a fact, by the numbers of their nodes.
 ghost use mathlib.Core.Path.{_≡_};
-ghost use Prim.Native.Nat.{_+_, _-_, _*_};
-use site::BasicConcept;
-use site::Concept;
+ghost use Prim.Native.Nat.{_-_};
+ghost use Rattle.site.specs.Kinds.BasicRole.{forward, inverse};
+ghost use Rattle.site.specs.Kinds.BasicConcept.{named, some};
+ghost use Rattle.site.specs.Kinds.Node.{concept, role};
+ghost use Rattle.site.specs.Codes.{nodeCode};
 use site::Fact;
 
 // A node at an ordered pair; a concept's is at a thing and itself.
@@ -14,32 +16,21 @@ pub struct Typ {
 
 // "A(a): A at a."
 pub fn concept_type(f: Fact) -> Typ
-    ensures { λ r. ⌜ r ≡ record { node = f .predicate; from = f .subject; to = f .subject } ⌝ }
+    ensures { λ r. ⌜ r ≡ record { node = nodeCode (concept (named (f .predicate))); from = f .subject; to = f .subject } ⌝ }
 {
     Typ {
-        node: f.predicate as usize,
+        node: f.concept().node(),
         from: f.subject,
         to: f.subject,
     }
 }
 
-// The code of a role's fact's role, read forwards.
-pub fn forward_code(f: Fact) -> usize
-    ensures { λ r. ⌜ r ≡ 2 * (f .predicate - 64) ⌝ }
-{
-    if f.predicate < Concept::COUNT {
-        return 0;
-    }
-    let role = (f.predicate - Concept::COUNT) as usize;
-    2 * role
-}
-
 // "R(a,b): 64+2j at a"
 pub fn partner_type(f: Fact) -> Typ
-    ensures { λ r. ⌜ r ≡ record { node = 64 + 2 * (f .predicate - 64); from = f .subject; to = f .subject } ⌝ }
+    ensures { λ r. ⌜ r ≡ record { node = nodeCode (concept (some (forward (f .predicate - 64)))); from = f .subject; to = f .subject } ⌝ }
 {
     Typ {
-        node: 64 + forward_code(f),
+        node: f.role().some_forward(),
         from: f.subject,
         to: f.subject,
     }
@@ -47,10 +38,10 @@ pub fn partner_type(f: Fact) -> Typ
 
 // "64+2j+1 at b"
 pub fn back_partner_type(f: Fact) -> Typ
-    ensures { λ r. ⌜ r ≡ record { node = 64 + (2 * (f .predicate - 64) + 1); from = f .object; to = f .object } ⌝ }
+    ensures { λ r. ⌜ r ≡ record { node = nodeCode (concept (some (inverse (f .predicate - 64)))); from = f .object; to = f .object } ⌝ }
 {
     Typ {
-        node: 64 + (forward_code(f) + 1),
+        node: f.role().some_inverse(),
         from: f.object,
         to: f.object,
     }
@@ -58,10 +49,10 @@ pub fn back_partner_type(f: Fact) -> Typ
 
 // "2j at the pair (a,b)"
 pub fn role_type(f: Fact) -> Typ
-    ensures { λ r. ⌜ r ≡ record { node = 128 + 2 * (f .predicate - 64); from = f .subject; to = f .object } ⌝ }
+    ensures { λ r. ⌜ r ≡ record { node = nodeCode (role (forward (f .predicate - 64))); from = f .subject; to = f .object } ⌝ }
 {
     Typ {
-        node: 128 + forward_code(f),
+        node: f.role().forward_node(),
         from: f.subject,
         to: f.object,
     }
@@ -69,10 +60,10 @@ pub fn role_type(f: Fact) -> Typ
 
 // "2j+1 at the pair (b,a)"
 pub fn back_role_type(f: Fact) -> Typ
-    ensures { λ r. ⌜ r ≡ record { node = 128 + (2 * (f .predicate - 64) + 1); from = f .object; to = f .subject } ⌝ }
+    ensures { λ r. ⌜ r ≡ record { node = nodeCode (role (inverse (f .predicate - 64))); from = f .object; to = f .subject } ⌝ }
 {
     Typ {
-        node: 128 + (forward_code(f) + 1),
+        node: f.role().inverse_node(),
         from: f.object,
         to: f.subject,
     }

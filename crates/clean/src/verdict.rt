@@ -9,37 +9,30 @@ ghost use Rattle.clean.specs.Marks.{mark, partner};
 ghost use Rattle.clean.specs.Coded.{bitsFollow};
 use crate::answers::Judged;
 use crate::clash::is_alone;
-use crate::search::NONE;
 use crate::search::lowest_clash;
 use bundle::Facts;
+use follows::Table;
 use site::Fact;
 
-// The marks: "0 kept, 1 alone, 2 disputed".
-pub const KEPT: u32 = 0;
-
-pub const ALONE: u32 = 1;
-
-pub const DISPUTED: u32 = 2;
-
-pub fn judge(bundle: &[u8], facts: Facts, excluded: &[u64; 576], functional: u64, f: Fact) -> Judged
+pub fn judge(bundle: &[u8], facts: Facts, excluded: &Table, functional: u64, f: Fact) -> Judged
     requires { ⌜ facts .count ≤ mostFacts ⌝ }
     ensures { λ r. ⌜ r ≡ record { mark = mark itself (bitsFollow [] (now (excluded .entry)) functional) (factsOf (now (bundle .entry)) facts) f; partner = partner itself (bitsFollow [] (now (excluded .entry)) functional) (factsOf (now (bundle .entry)) facts) f } ⌝ }
 {
     let found = lowest_clash(bundle, facts, excluded, functional, f);
-    if found < NONE {
+    if found < Fact::NO_PARTNER {
         return Judged {
-            mark: DISPUTED,
+            mark: Judged::DISPUTED,
             partner: found,
         };
     }
     if is_alone(excluded, f) {
         return Judged {
-            mark: ALONE,
-            partner: NONE,
+            mark: Judged::ALONE,
+            partner: Fact::NO_PARTNER,
         };
     }
     Judged {
-        mark: KEPT,
-        partner: NONE,
+        mark: Judged::KEPT,
+        partner: Fact::NO_PARTNER,
     }
 }

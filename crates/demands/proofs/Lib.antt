@@ -1,6 +1,9 @@
+pub mod AsDocument01
+pub mod BySteps
+pub mod Computed
 pub mod Demands
+pub mod Exactly
 pub mod FirstDemand
 pub mod ReaderYields
-pub mod SecondDemand
+pub mod RoundTrips
 pub mod ThirdDemand
-pub mod Written

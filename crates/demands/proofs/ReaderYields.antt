@@ -1,15 +1,16 @@
 -- The reader, step by step as C calls it: its yields are the definition's, shown; on an accepted bundle these are the facts, and then that it is done.
-use Prim.Native.Nat.{ℕ, zero, suc, _+_}
+use Prim.Native.Nat.{ℕ, zero, suc, _+_, _≤_}
 use mathlib.Core.Path.{_≡_, refl, sym, ap, _∙_}
 use mathlib.Core.List.{List, [], _∷_, _++_, map}
-use lib.ListN.{length, replicate}
+use lib.ListN.{length, take, replicate}
+use native.Mathlib.Omega.{arith}
 use denote.Ref.{now}
+use Rattle.number.specs.Answer.{Answer}
 use Rattle.number.specs.Answer.Answer.{gives}
 use Rattle.number.proofs.Answers.{over-given}
 use Rattle.site.specs.declared.fact.Fact.{Fact}
 use Rattle.bundle.specs.Bundle.{factsOf, checkBundle, readBundle}
-use Rattle.bundle.proofs.Accepted.{accepted-count}
-use Rattle.records.specs.Reading.{readerStep, yieldsFrom}
+use Rattle.records.specs.Reading.{Found, readerStep, yieldsFrom}
 use Rattle.records.specs.Reading.Found.{fact, done}
 use Rattle.records.specs.declared.reader.Reader.{Reader}
 use Rattle.records.proofs.OfReader.{yielded, starts, yields-all}
@@ -17,8 +18,21 @@ use Rattle.dzyunagor.specs.Promises.{ReaderStart}
 use Rattle.dzyunagor.specs.Shown.{shownFound, shownStart, shownYield}
 use Rattle.dzyunagor.specs.declared.shapes.DzyStart.{DzyStart}
 use Rattle.dzyunagor.specs.declared.shapes.DzyYield.{DzyYield}
-use Rattle.demands.specs.Demands.{BothRead, Walked, ReaderYields}
+use Rattle.demands.specs.Demands.{BothRead, Walked, yields, ReaderYields}
 use Rattle.demands.specs.Demands.Walked.{stop, step}
+
+-- fewer steps yield the start of what more steps yield
+fewer-steps : (bytes : List ℕ) (n k at : ℕ) → n ≤ k → yieldsFrom bytes n at ≡ take n (yieldsFrom bytes k at)
+unfolding yieldsFrom
+fewer-steps bytes zero k at few = refl
+fewer-steps bytes (suc n) zero at few = absurd (omega arith)
+fewer-steps bytes (suc n) (suc k) at few =
+    ap (λ (l : List (Answer Found)). readerStep bytes at .yields ∷ l) (fewer-steps bytes n k (readerStep bytes at .next) (omega arith))
+
+take-map : {A B : Type 0} (f : A → B) (n : ℕ) (l : List A) → map f (take n l) ≡ take n (map f l)
+take-map f zero l = refl
+take-map f (suc n) [] = refl
+take-map f (suc n) (x ∷ xs) = ap (λ rest. f x ∷ rest) (take-map f n xs)
 
 -- what the steps yield is what the definition yields, from the same bytes and place
 walked-yields : {first end : Reader} {ys : List DzyYield} → Walked first ys end → (bytes : List ℕ) (at : ℕ) → now (first .src) ≡ bytes → first .at ≡ at → ys ≡ map shownYield (yieldsFrom bytes (length ys) at)
@@ -39,21 +53,21 @@ all-shown : (facts : List Fact) (k : ℕ) → map shownYield (map yielded facts 
 all-shown [] k = dones-shown k
 all-shown (f ∷ fs) k = ap (λ (l : List DzyYield). shownFound (fact f) ∷ l) (all-shown fs k)
 
-read-all : (rules bundle : List ℕ) (r : DzyStart) → ReaderStart rules bundle r → (a : BothRead rules bundle)
-    → (first end : Reader) → now (first .src) ≡ bundle → first .at ≡ r .at → (ys : List DzyYield) → Walked first ys end
-    → (k : ℕ) → length ys ≡ length (a .facts) + k → ys ≡ map (λ f. shownFound (fact f)) (a .facts) ++ replicate k (shownFound done)
-unfolding ReaderStart readBundle
-read-all rules bundle r p a first end same there ys walked k many =
-    let b = over-given (factsOf bundle) (checkBundle (a .head) bundle) (a .bundle-read) in
-    let start : first .at ≡ b .value .start =
-    there ∙ ap (λ (s : DzyStart). s .at) (p ∙ ap shownStart (starts rules bundle (a .head) (b .value) (a .rules-read) (b .given))) in
-    let count : length (a .facts) ≡ b .value .count = ap length (sym (b .told)) ∙ accepted-count (a .head) bundle (b .value) (b .given) in
-    let steps : length ys ≡ b .value .count + k = many ∙ ap (λ (n : ℕ). n + k) count in
-    walked-yields walked bundle (b .value .start) same start
-    ∙ ap (λ (n : ℕ). map shownYield (yieldsFrom bundle n (b .value .start))) steps
-    ∙ ap (map shownYield) (yields-all rules bundle (a .head) (b .value) (a .rules-read) (b .given) k)
-    ∙ all-shown (factsOf bundle (b .value)) k
-    ∙ ap (λ (facts : List Fact). map (λ f. shownFound (fact f)) facts ++ replicate k (shownFound done)) (b .told)
+-- so many steps on an accepted bundle
+module _ {rules bundle : List ℕ} (a : BothRead rules bundle) (r : DzyStart) (p : ReaderStart rules bundle r) where
+  steps-yield : (n : ℕ) → map shownYield (yieldsFrom bundle n (r .at)) ≡ take n (yields (a .facts) n)
+  unfolding ReaderStart readBundle
+  steps-yield n =
+      let b = over-given (factsOf bundle) (checkBundle (a .head) bundle) (a .bundle-read) in
+      let start : r .at ≡ b .value .start = ap (λ (s : DzyStart). s .at) (p ∙ ap shownStart (starts rules bundle (a .head) (b .value) (a .rules-read) (b .given))) in
+      let all = yields-all rules bundle (a .head) (b .value) (a .rules-read) (b .given) n in
+      ap (λ (k : ℕ). map shownYield (yieldsFrom bundle n k)) start
+      ∙ ap (map shownYield) (fewer-steps bundle n (b .value .count + n) (b .value .start) (omega arith) ∙ ap (take n) all)
+      ∙ take-map shownYield n (map yielded (factsOf bundle (b .value)) ++ replicate n (gives done))
+      ∙ ap (take n) (all-shown (factsOf bundle (b .value)) n ∙ ap (λ (facts : List Fact). yields facts n) (b .told))
 
 pub reader-yields : ReaderYields
-reader-yields = record { yields-all = read-all }
+reader-yields =
+    record {
+      in-order = λ a r p first end ys same there walked. walked-yields walked _ (r .at) same there ∙ steps-yield a r p (length ys);
+    }

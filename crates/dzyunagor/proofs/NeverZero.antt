@@ -26,7 +26,7 @@ use Rattle.bundle.specs.Records.{roomFor, recordFault, recordsFrom, planRecords
 use Rattle.follows.specs.Tables.{Follows, followsOf}
 use Rattle.clean.specs.Operations.{Reply, given, roomForMarks, thingKnown, marking, counting, asking, having, joining, keeping}
 use Rattle.clean.specs.Operations.Reply.{yes-by, none as no-fact}
-use Rattle.operations.specs.Promises.{opening}
+use Rattle.bundle.specs.Opened.{opening}
 use Rattle.records.specs.Reading.{Found, readerStart, readerStep}
 use Rattle.records.specs.Reading.Found.{fact, done}
 use Rattle.records.specs.Rows.{factOf, handOut, handRecords, writeRow}
@@ -139,12 +139,11 @@ module _ (rules : List ℕ) where
     unfolding handRecords handOut
     hand-numbered room =
         refuses-over _ _ (handOut rules bundle room)
-        (after-rules _
-        (λ h. refuses-then _ (checkBundle h bundle) _ (bundle-numbered bundle h) (λ b e. refuses-tested _ (leb (b .count) room) b (refusal 9 2 0) (omega arith))))
+        (refuses-then _ (opening rules bundle) _ opening-numbered (λ i e. refuses-tested _ (leb (i .facts .count) room) (i .facts) (refusal 9 2 0) (omega arith)))
 
     pub start-numbered : Numbered (readerStart rules bundle)
     unfolding readerStart
-    start-numbered = after-rules _ (λ h. refuses-over _ _ (checkBundle h bundle) (bundle-numbered bundle h))
+    start-numbered = refuses-over _ _ (opening rules bundle) opening-numbered
 
 pub step-numbered : (s : List ℕ) (at : ℕ) → Numbered (readerStep s at .yields)
 step-numbered s at r e = step-refused-how s at r e .low

@@ -16,10 +16,11 @@ use Rattle.bundle.specs.declared.writing.BundleWrote.the-variants.{Written, Ref
 use Rattle.clean.specs.Operations.{counting, asking, having, joining}
 use Rattle.clean.specs.declared.answers.Counts.{Counts}
 use Rattle.clean.specs.declared.answers.Judged.{Judged}
-use Rattle.operations.specs.Promises.{opening, openedTold, countedTold, askedTold, repliedTold, MarksAll, WritesKept}
-use Rattle.operations.specs.declared.open.Inputs.{Inputs}
-use Rattle.operations.specs.declared.open.Opened.{Opened}
-use Rattle.operations.specs.declared.open.Opened.the-variants.{Accepted as Ready, Refused as NotReady}
+use Rattle.bundle.specs.Opened.{opening, openedTold}
+use Rattle.operations.specs.Promises.{countedTold, askedTold, repliedTold, MarksAll, WritesKept}
+use Rattle.bundle.specs.declared.open.Inputs.{Inputs}
+use Rattle.bundle.specs.declared.open.Opened.{Opened}
+use Rattle.bundle.specs.declared.open.Opened.the-variants.{Accepted as Ready, Refused as NotReady}
 use Rattle.operations.specs.declared.mark.Counted.{Counted}
 use Rattle.operations.specs.declared.mark.Counted.the-variants.{Counts as CountsAre, Refused as NotCounted}
 use Rattle.operations.specs.declared.mark.Asked.{Asked}

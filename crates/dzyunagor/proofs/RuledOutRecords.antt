@@ -7,7 +7,6 @@ use denote.Ref.{RefT, now}
 use Rattle.number.specs.Answer.{over, laid}
 use Rattle.number.proofs.One.{Same}
 use Rattle.records.specs.Reading.{Stepped, readerStep}
-use Rattle.records.specs.Rows.{rowAfter}
 use Rattle.records.specs.declared.record.Record.{Record}
 use Rattle.records.specs.declared.reader.Reader.{Reader}
 use Rattle.clean.proofs.Cases.{R, F}
@@ -96,7 +95,7 @@ seven = old ∷ old ∷ old ∷ old ∷ old ∷ old ∷ old ∷ []
 
 pub records-right : Records R F seven (long 6) (six ++ (old ∷ []))
 records-right =
-    record { answer = sym (ap (λ a. shownLength (over length a)) (worked .handed)); memory = sym (ap (rowAfter seven) (worked .handed)) }
+    record { answer = sym (ap (λ a. shownLength (over length a)) (worked .handed)); memory = sym (ap (laid seven 0) (worked .handed)) }
 
 module _ (r : DzyLength) (row : List Record) (p : Records R F seven r row) where
   pub records-is : Same r (long 6) row (six ++ (old ∷ []))
@@ -124,7 +123,7 @@ five = old ∷ old ∷ old ∷ old ∷ old ∷ []
 
 pub no-slot-right : Records R F five (refusedWith 9 2 0) five
 no-slot-right =
-    record { answer = sym (ap (λ a. shownLength (over length a)) (worked .not-handed)); memory = sym (ap (rowAfter five) (worked .not-handed)) }
+    record { answer = sym (ap (λ a. shownLength (over length a)) (worked .not-handed)); memory = sym (ap (laid five 0) (worked .not-handed)) }
 
 module _ (r : DzyLength) (row : List Record) (p : Records R F five r row) where
   pub no-slot-is : Same r (refusedWith 9 2 0) row five

@@ -24,7 +24,7 @@ use Rattle.clean.specs.Operations.{given, roomForMarks, marking, counting, aski
 use Rattle.clean.specs.Operations.Reply.{yes-by, none}
 use Rattle.clean.specs.declared.answers.Counts.{Counts}
 use Rattle.clean.proofs.Cases.{R, F}
-use Rattle.operations.specs.Promises.{opening}
+use Rattle.bundle.specs.Opened.{opening}
 use Rattle.records.specs.Reading.{readerStart, readerStep}
 use Rattle.records.specs.Reading.Found.{fact, done}
 use Rattle.records.specs.Rows.{handOut, handRecords, writeRow}

@@ -8,9 +8,9 @@ use denote.Ref.{now}
 use Rattle.number.specs.Answer.{over, laid}
 use Rattle.rules.specs.RuleFile.{checkRules}
 use Rattle.clean.specs.Operations.{marking, counting, asking, having, joining, keeping}
-use Rattle.operations.specs.Promises.{opening}
+use Rattle.bundle.specs.Opened.{opening}
 use Rattle.records.specs.Reading.{readerStart, readerStep}
-use Rattle.records.specs.Rows.{handRecords, rowAfter, writeRow}
+use Rattle.records.specs.Rows.{handRecords, writeRow}
 use Rattle.records.specs.declared.record.Record.{Record}
 use Rattle.records.specs.declared.reader.Reader.{Reader}
 use Rattle.dzyunagor.specs.Shown.{shownCounts, shownAsked, shownAnswer, shownLength, shownStart, shownYield}
@@ -59,7 +59,7 @@ pub record WriteKept (rules bundle out : List ℕ) (r : DzyLength) (out′ : Lis
 -- "The console receives the facts as a lent row of fact records": their count, and the row
 pub record Records (rules bundle : List ℕ) (row : List Record) (r : DzyLength) (row′ : List Record) : Type 0 where
   pub answer : r ≡ shownLength (over length (handRecords rules bundle (length row)))
-  pub memory : row′ ≡ rowAfter row (handRecords rules bundle (length row))
+  pub memory : row′ ≡ laid row 0 (handRecords rules bundle (length row))
 
 -- "and hands such a row back to be written": the bundle's length, and the output
 pub record WriteRecords (rules : List ℕ) (row : List Record) (out : List ℕ) (r : DzyLength) (out′ : List ℕ) : Type 0 where

@@ -4,7 +4,7 @@ ghost use Rattle.dzyunagor.specs.Promises.{CheckRules, CheckBundle, Mark
 mod shapes;
 mod show;
 
-use operations::Opened;
+use bundle::Opened;
 use records::Reader;
 use records::Record;
 use rules::RulesRead;
@@ -47,7 +47,7 @@ pub extern "C" fn dzy_check_rules(rules: &[u8]) -> DzyLength
 pub extern "C" fn dzy_check_bundle(rules: &[u8], bundle: &[u8]) -> DzyLength
     ensures { λ r. ⌜ CheckBundle (now (rules .entry)) (now (bundle .entry)) r ⌝ }
 {
-    match operations::open_inputs(rules, bundle) {
+    match bundle::open_inputs(rules, bundle) {
         Opened::Accepted(inputs) => DzyLength {
             refused: not_refused(),
             length: inputs.facts.count as u64,

@@ -1,4 +1,4 @@
--- What adding one pair after the other does, and which numbers the code's nodes have.
+-- What adding one pair after the other does.
 use Prim.Native.Nat.{ℕ, suc, _+_, _-_, _*_, _%_, _^_, _<_, _≤_}
 use mathlib.Core.Path.{_≡_, refl, sym, ap, subst, _∙_}
 use mathlib.Core.Bool.{true}
@@ -17,11 +17,12 @@ use Rattle.site.specs.Kinds.Rule.{included, disjoint, roleIncluded, roleDisjoin
 use Rattle.site.specs.Codes.{roleOf, roleCode, conceptOf, nodeCode}
 use Rattle.site.specs.Lists.{upTo, each}
 use Rattle.site.specs.Told.{ruleTold}
+use Rattle.site.specs.declared.nodes.Role.{Role}
 use Rattle.site.specs.declared.nodes.BasicRole.{BasicRole as RoleCode}
 use Rattle.site.specs.declared.nodes.BasicConcept.{BasicConcept as ConceptCode}
 use Rattle.site.specs.declared.rule.Rule.{Rule as RuleCase}
 use Rattle.site.specs.declared.rule.Rule.the-variants.{Included, Disjoint, RoleIncluded, RoleDisjoint, Functional}
-use Rattle.site.proofs.OfCodes.{role-code, concept-code}
+use Rattle.site.proofs.OfCodes.{role-code}
 use Rattle.site.proofs.Lists.{or-cases, or-left, or-right}
 use Rattle.follows.specs.Bits.{bitOf, Has, IsTable, Added, CameAdded}
 use Rattle.follows.specs.Bits.CameAdded.{old-one, new-one}
@@ -30,20 +31,6 @@ use Rattle.follows.specs.Adding.{CamePair, AddedAll, roleArrows, someArr
 use Rattle.follows.specs.Adding.CamePair.{at-once, of-pair}
 use Rattle.follows.specs.Adding.CameFunctional.{at-once as was, of-rule}
 use Rattle.follows.proofs.Words.{bit-or, bit-same, bit-other}
-
--- the numbers of the nodes
-pub concept-number : (b m : ℕ) → m ≡ b → m ≡ nodeCode (concept (conceptOf b))
-concept-number b m e = e ∙ sym (concept-code b)
-
-pub some-number : (q m n : ℕ) → m ≡ 64 → n ≡ q → m + n ≡ nodeCode (concept (some (roleOf q)))
-some-number q m n e f =
-    let g = role-code q in
-    omega arith
-
-pub role-number : (q m n : ℕ) → m ≡ 128 → n ≡ q → m + n ≡ nodeCode (role (roleOf q))
-role-number q m n e f =
-    let g = role-code q in
-    omega arith
 
 -- no pair, one more pair, more pairs
 pub added-none : (t : List ℕ) → IsTable t → AddedAll [] t t
@@ -173,13 +160,15 @@ module _ (t₀ t₁ t₂ : List ℕ) where
       added-more first (inBothOrders (record { left = role (turned p); right = role (turned q) })) t₀ t₁ t₂ a back
 
 -- the ring of a role
-pub ring-of : (t₀ t₁ t₂ t₃ t₄ : List ℕ) (j m n o : ℕ) → m ≡ j → n ≡ 128 → o ≡ 64 → Added t₀ t₁ (n + 2 * m) (o + 2 * m) → Added t₁ t₂ (o + 2 * m) (o + (2 * m + 1))
-    → Added t₂ t₃ (o + (2 * m + 1)) (n + (2 * m + 1)) → Added t₃ t₄ (n + (2 * m + 1)) (n + 2 * m) → AddedAll (ring j) t₀ t₄
-ring-of t₀ t₁ t₂ t₃ t₄ j m n o e f g a b c d =
-    added-one (record { left = role (forward j); right = concept (some (forward j)) }) _ t₀ t₁ t₄ _ _ a (omega arith) (omega arith)
-    (added-one (record { left = concept (some (forward j)); right = concept (some (inverse j)) }) _ t₁ t₂ t₄ _ _ b (omega arith) (omega arith)
-    (added-one (record { left = concept (some (inverse j)); right = role (inverse j) }) _ t₂ t₃ t₄ _ _ c (omega arith) (omega arith)
-    (added-last (record { left = role (inverse j); right = role (forward j) }) t₃ t₄ _ _ d (omega arith) (omega arith))))
+pub ring-of : (t₀ t₁ t₂ t₃ t₄ : List ℕ) (j : ℕ) (r : Role) (q q′ b b′ : ℕ) → r ≡ record { number = j } → q ≡ nodeCode (role (forward (r .number))) → q′ ≡ nodeCode (role (inverse (r .number)))
+    → b ≡ nodeCode (concept (some (forward (r .number)))) → b′ ≡ nodeCode (concept (some (inverse (r .number)))) → Added t₀ t₁ q b → Added t₁ t₂ b b′ → Added t₂ t₃ b′ q′ → Added t₃ t₄ q′ q
+    → AddedAll (ring j) t₀ t₄
+ring-of t₀ t₁ t₂ t₃ t₄ j r q q′ b b′ is e e′ f f′ one two three four =
+    subst (λ k. AddedAll (ring (k .number)) t₀ t₄) is
+    (added-one (record { left = role (forward (r .number)); right = concept (some (forward (r .number))) }) _ t₀ t₁ t₄ q b one e f
+    (added-one (record { left = concept (some (forward (r .number))); right = concept (some (inverse (r .number))) }) _ t₁ t₂ t₄ b b′ two f f′
+    (added-one (record { left = concept (some (inverse (r .number))); right = role (inverse (r .number)) }) _ t₂ t₃ t₄ b′ q′ three f′ e′
+    (added-last (record { left = role (inverse (r .number)); right = role (forward (r .number)) }) t₃ t₄ q′ q four e′ e))))
 
 -- the rings, one after the other
 pub each-more : {A B : Type 0} (f : A → List B) (l : List A) (x : A) → each f (l ++ (x ∷ [])) ≡ each f l ++ f x
@@ -254,4 +243,4 @@ module _ (mask : ℕ) (rule : RuleCase) where
   pub functional-4 : (q : RoleCode) (r : ℕ) → rule ≡ Functional q → FunctionalAdded (functional (roleOf (q .code))) mask r → FunctionalAdded (ruleTold rule) mask r
   functional-4 q r z h = rw z h
 
-pub ruleset adds = (concept-number, some-number, role-number, arrows-included, arrows-role, exclusions-disjoint, exclusions-role, no-arrows-1, no-arrows-3, no-arrows-4, no-exclusions-0, no-exclusions-2, no-exclusions-4, in-both-orders, two-roles, two-somes, role-arrows, role-exclusions, ring-of, rings-start, rings-on, rings-end, functional-over, functional-more, functional-0, functional-1, functional-2, functional-3, functional-4, needs)
+pub ruleset adds = (arrows-included, arrows-role, exclusions-disjoint, exclusions-role, no-arrows-1, no-arrows-3, no-arrows-4, no-exclusions-0, no-exclusions-2, no-exclusions-4, in-both-orders, two-roles, two-somes, role-arrows, role-exclusions, ring-of, rings-start, rings-on, rings-end, functional-over, functional-more, functional-0, functional-1, functional-2, functional-3, functional-4, needs)

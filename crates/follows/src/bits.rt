@@ -9,8 +9,16 @@ pub const WORDS: usize = 3;
 
 pub const BITS: usize = 64;
 
+// The words of a table.
+pub const SIZE: usize = NODES * WORDS;
+
+pub type Table = [u64; SIZE];
+
+// A table with nothing in it.
+pub const BLANK: Table = [0u64; SIZE];
+
 // Has the table y in row x?
-pub fn get(t: &[u64; 576], x: usize, y: usize) -> bool
+pub fn get(t: &Table, x: usize, y: usize) -> bool
     ensures { λ r. ⌜ r ≡ has (now (t .entry)) x y ⌝ }
 {
     if x >= NODES {
@@ -26,7 +34,7 @@ pub fn get(t: &[u64; 576], x: usize, y: usize) -> bool
 }
 
 // Row x takes y in.
-pub fn add(t: &mut [u64; 576], x: usize, y: usize)
+pub fn add(t: &mut Table, x: usize, y: usize)
     requires { ⌜ IsTable (now t) ⌝ }
     ensures { λ r. ⌜ Added (now (t .entry)) (now (t .exit)) x y ⌝ }
 {
@@ -42,7 +50,7 @@ pub fn add(t: &mut [u64; 576], x: usize, y: usize)
 }
 
 // Row x takes row y in.
-pub fn join(t: &mut [u64; 576], x: usize, y: usize)
+pub fn join(t: &mut Table, x: usize, y: usize)
     requires { ⌜ IsTable (now t) ⌝ }
     ensures { λ r. ⌜ Joined (now (t .entry)) (now (t .exit)) x y ⌝ }
 {

@@ -1,6 +1,7 @@
 // Closing a table: the nodes are gone through one after the other, and each row that has a node takes that node's row in.
 ghost use Rattle.follows.specs.Bits.{IsTable};
 ghost use Rattle.follows.specs.Passes.{Pulled, Passed, Reflected, Turned, Closes};
+use crate::bits::Table;
 use crate::bits::add;
 use crate::bits::get;
 use crate::bits::join;
@@ -9,7 +10,7 @@ use crate::listed::node_at;
 use site::Declared;
 
 // Row x takes row m in, if it has m.
-fn pull(t: &mut [u64; 576], x: usize, m: usize)
+fn pull(t: &mut Table, x: usize, m: usize)
     requires { ⌜ IsTable (now t) ⌝ }
     ensures { λ r. ⌜ Pulled (now (t .entry)) (now (t .exit)) x m ⌝ }
 {
@@ -20,7 +21,7 @@ fn pull(t: &mut [u64; 576], x: usize, m: usize)
 }
 
 // Every row that has m takes row m in.
-fn pass(t: &mut [u64; 576], d: Declared, m: usize)
+fn pass(t: &mut Table, d: Declared, m: usize)
     requires { ⌜ IsTable (now t) ⌝ }
     ensures { λ r. ⌜ Passed (d .concepts) (d .roles) (now (t .entry)) (now (t .exit)) m ⌝ }
 {
@@ -33,7 +34,7 @@ fn pass(t: &mut [u64; 576], d: Declared, m: usize)
 }
 
 // Every node has itself in its row.
-fn reflect(t: &mut [u64; 576], d: Declared)
+fn reflect(t: &mut Table, d: Declared)
     requires { ⌜ IsTable (now t) ⌝ }
     ensures { λ r. ⌜ Reflected (d .concepts) (d .roles) (now (t .entry)) (now (t .exit)) ⌝ }
 {
@@ -47,7 +48,7 @@ fn reflect(t: &mut [u64; 576], d: Declared)
 }
 
 // Every node is gone through.
-fn turn(t: &mut [u64; 576], d: Declared)
+fn turn(t: &mut Table, d: Declared)
     requires { ⌜ IsTable (now t) ⌝ }
     ensures { λ r. ⌜ Turned (d .concepts) (d .roles) (now (t .entry)) (now (t .exit)) ⌝ }
 {
@@ -60,7 +61,7 @@ fn turn(t: &mut [u64; 576], d: Declared)
 }
 
 // The table comes to hold the smallest reflexive and transitive relation with what it holds.
-pub fn close(t: &mut [u64; 576], d: Declared)
+pub fn close(t: &mut Table, d: Declared)
     requires { ⌜ IsTable (now t) ⌝ }
     ensures { λ r. ⌜ Closes (d .concepts) (d .roles) (now (t .entry)) (now (t .exit)) ⌝ }
 {

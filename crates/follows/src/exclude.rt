@@ -6,6 +6,7 @@ ghost use Rattle.follows.specs.Listed.{countOf};
 ghost use Rattle.follows.specs.Lowering.{TookBit, TookWord, TookRow, Widened, GaveBit, GaveWord, MirroredRow, Mirrored, Spreads, EmptiedOne, EmptiedRow, EmptiedBy, EmptiedAll, Shuts};
 use crate::bits::BITS;
 use crate::bits::NODES;
+use crate::bits::Table;
 use crate::bits::WORDS;
 use crate::bits::add;
 use crate::bits::get;
@@ -15,7 +16,7 @@ use crate::listed::node_at;
 use site::Declared;
 
 // Row x takes row u in, if the word's lowest bit is set.
-fn take_bit(t: &mut [u64; 576], word: u64, x: usize, u: usize)
+fn take_bit(t: &mut Table, word: u64, x: usize, u: usize)
     requires { ⌜ IsTable (now t) ⌝ }
     ensures { λ r. ⌜ TookBit word (now (t .entry)) (now (t .exit)) x u ⌝ }
 {
@@ -26,7 +27,7 @@ fn take_bit(t: &mut [u64; 576], word: u64, x: usize, u: usize)
 }
 
 // Row x takes in the rows of the word's bits; the row of bit 0 is `base`.
-fn take_word(t: &mut [u64; 576], word: u64, base: usize, x: usize)
+fn take_word(t: &mut Table, word: u64, base: usize, x: usize)
     requires { ⌜ IsTable (now t) ⌝ }
     requires { ⌜ base ≤ 128 ⌝ }
     ensures { λ r. ⌜ TookWord word base (now (t .entry)) (now (t .exit)) x ⌝ }
@@ -41,7 +42,7 @@ fn take_word(t: &mut [u64; 576], word: u64, base: usize, x: usize)
 }
 
 // Row x takes in every row that it leads to.
-fn lower_row(t: &mut [u64; 576], by: &[u64; 576], x: usize)
+fn lower_row(t: &mut Table, by: &Table, x: usize)
     requires { ⌜ IsTable (now t) ⌝ }
     ensures { λ r. ⌜ TookRow (now (by .entry)) (now (t .entry)) (now (t .exit)) x ⌝ }
 {
@@ -55,7 +56,7 @@ fn lower_row(t: &mut [u64; 576], by: &[u64; 576], x: usize)
 }
 
 // Every row takes in every row that it leads to.
-fn widen(t: &mut [u64; 576], by: &[u64; 576], d: Declared)
+fn widen(t: &mut Table, by: &Table, d: Declared)
     requires { ⌜ IsTable (now t) ⌝ }
     ensures { λ r. ⌜ Widened (d .concepts) (d .roles) (now (by .entry)) (now (t .entry)) (now (t .exit)) ⌝ }
 {
@@ -68,7 +69,7 @@ fn widen(t: &mut [u64; 576], by: &[u64; 576], d: Declared)
 }
 
 // Row u takes x in, if the word's lowest bit is set.
-fn give_bit(t: &mut [u64; 576], word: u64, x: usize, u: usize)
+fn give_bit(t: &mut Table, word: u64, x: usize, u: usize)
     requires { ⌜ IsTable (now t) ⌝ }
     ensures { λ r. ⌜ GaveBit word (now (t .entry)) (now (t .exit)) x u ⌝ }
 {
@@ -79,7 +80,7 @@ fn give_bit(t: &mut [u64; 576], word: u64, x: usize, u: usize)
 }
 
 // The rows of the word's bits take x in; the row of bit 0 is `base`.
-fn give_word(t: &mut [u64; 576], word: u64, base: usize, x: usize)
+fn give_word(t: &mut Table, word: u64, base: usize, x: usize)
     requires { ⌜ IsTable (now t) ⌝ }
     requires { ⌜ base ≤ 128 ⌝ }
     ensures { λ r. ⌜ GaveWord word base (now (t .entry)) (now (t .exit)) x ⌝ }
@@ -94,7 +95,7 @@ fn give_word(t: &mut [u64; 576], word: u64, base: usize, x: usize)
 }
 
 // Whatever row x has takes x in.
-fn mirror_row(t: &mut [u64; 576], x: usize)
+fn mirror_row(t: &mut Table, x: usize)
     requires { ⌜ IsTable (now t) ⌝ }
     ensures { λ r. ⌜ MirroredRow (now (t .entry)) (now (t .exit)) x ⌝ }
 {
@@ -111,7 +112,7 @@ fn mirror_row(t: &mut [u64; 576], x: usize)
 }
 
 // The table becomes symmetric.
-fn mirror(t: &mut [u64; 576], d: Declared)
+fn mirror(t: &mut Table, d: Declared)
     requires { ⌜ IsTable (now t) ⌝ }
     ensures { λ r. ⌜ Mirrored (d .concepts) (d .roles) (now (t .entry)) (now (t .exit)) ⌝ }
 {
@@ -124,7 +125,7 @@ fn mirror(t: &mut [u64; 576], d: Declared)
 }
 
 // A symmetric table goes down both sides.
-fn spread(t: &mut [u64; 576], by: &[u64; 576], d: Declared)
+fn spread(t: &mut Table, by: &Table, d: Declared)
     requires { ⌜ IsTable (now t) ⌝ }
     ensures { λ r. ⌜ Spreads (d .concepts) (d .roles) (now (by .entry)) (now (t .entry)) (now (t .exit)) ⌝ }
 {
@@ -134,7 +135,7 @@ fn spread(t: &mut [u64; 576], by: &[u64; 576], d: Declared)
 }
 
 // z excludes itself, if it leads on to w.
-fn empty_one(t: &mut [u64; 576], on: &[u64; 576], z: usize, w: usize)
+fn empty_one(t: &mut Table, on: &Table, z: usize, w: usize)
     requires { ⌜ IsTable (now t) ⌝ }
     ensures { λ r. ⌜ EmptiedOne (now (on .entry)) (now (t .entry)) (now (t .exit)) z w ⌝ }
 {
@@ -145,7 +146,7 @@ fn empty_one(t: &mut [u64; 576], on: &[u64; 576], z: usize, w: usize)
 }
 
 // Each node that leads on to w excludes itself.
-fn empty_row(t: &mut [u64; 576], on: &[u64; 576], d: Declared, w: usize)
+fn empty_row(t: &mut Table, on: &Table, d: Declared, w: usize)
     requires { ⌜ IsTable (now t) ⌝ }
     ensures { λ r. ⌜ EmptiedRow (countOf (d .concepts) (d .roles)) (d .concepts) (d .roles) (now (on .entry)) (now (t .entry)) (now (t .exit)) w ⌝ }
 {
@@ -158,7 +159,7 @@ fn empty_row(t: &mut [u64; 576], on: &[u64; 576], d: Declared, w: usize)
 }
 
 // If w excludes itself, so does each node that leads on to it.
-fn empty_by(t: &mut [u64; 576], on: &[u64; 576], d: Declared, w: usize)
+fn empty_by(t: &mut Table, on: &Table, d: Declared, w: usize)
     requires { ⌜ IsTable (now t) ⌝ }
     ensures { λ r. ⌜ EmptiedBy (d .concepts) (d .roles) (now (on .entry)) (now (t .entry)) (now (t .exit)) w ⌝ }
 {
@@ -169,7 +170,7 @@ fn empty_by(t: &mut [u64; 576], on: &[u64; 576], d: Declared, w: usize)
 }
 
 // Each node that leads on to one that excludes itself excludes itself.
-fn empty(t: &mut [u64; 576], on: &[u64; 576], d: Declared)
+fn empty(t: &mut Table, on: &Table, d: Declared)
     requires { ⌜ IsTable (now t) ⌝ }
     ensures { λ r. ⌜ EmptiedAll (d .concepts) (d .roles) (now (on .entry)) (now (t .entry)) (now (t .exit)) ⌝ }
 {
@@ -182,7 +183,7 @@ fn empty(t: &mut [u64; 576], on: &[u64; 576], d: Declared)
 }
 
 // All exclusions, from the written ones in both orders, by what is included and by what leads on.
-pub fn exclude(t: &mut [u64; 576], by: &[u64; 576], on: &[u64; 576], d: Declared)
+pub fn exclude(t: &mut Table, by: &Table, on: &Table, d: Declared)
     requires { ⌜ IsTable (now t) ⌝ }
     ensures { λ r. ⌜ Shuts (d .concepts) (d .roles) (now (by .entry)) (now (on .entry)) (now (t .entry)) (now (t .exit)) ⌝ }
 {

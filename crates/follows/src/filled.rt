@@ -5,6 +5,8 @@ ghost use Rattle.follows.specs.Bits.{IsTable};
 ghost use Rattle.follows.specs.Tables.{arrowsOf};
 ghost use Rattle.follows.specs.Adding.{AddedAll, exclusionsOf};
 ghost use Rattle.follows.specs.Tells.{Blank, FunctionalOf, Tells};
+use crate::bits::BLANK;
+use crate::bits::Table;
 use crate::close::close;
 use crate::exclude::exclude;
 use crate::says::add_arrows;
@@ -16,7 +18,7 @@ use rules::RuleRead;
 use rules::rule_at;
 
 // The arrows of all rules.
-fn arrows_of(s: &[u8], head: Head, t: &mut [u64; 576])
+fn arrows_of(s: &[u8], head: Head, t: &mut Table)
     requires { ⌜ IsTable (now t) ⌝ }
     ensures { λ r. ⌜ AddedAll (each arrowsOf (rulesIn head (now (s .entry)) (head .rules) (head .start))) (now (t .entry)) (now (t .exit)) ⌝ }
 {
@@ -34,7 +36,7 @@ fn arrows_of(s: &[u8], head: Head, t: &mut [u64; 576])
 }
 
 // The written exclusions of all rules.
-fn exclusions_of(s: &[u8], head: Head, t: &mut [u64; 576])
+fn exclusions_of(s: &[u8], head: Head, t: &mut Table)
     requires { ⌜ IsTable (now t) ⌝ }
     ensures { λ r. ⌜ AddedAll (each exclusionsOf (rulesIn head (now (s .entry)) (head .rules) (head .start))) (now (t .entry)) (now (t .exit)) ⌝ }
 {
@@ -71,13 +73,13 @@ fn functionals_of(s: &[u8], head: Head) -> u64
 }
 
 // Fills the table of what is included and that of what is excluded, and gives the functional basic roles, a bit for each.
-pub fn fill(s: &[u8], head: Head, included: &mut [u64; 576], excluded: &mut [u64; 576]) -> u64
+pub fn fill(s: &[u8], head: Head, included: &mut Table, excluded: &mut Table) -> u64
     requires { ⌜ Blank (now included) ⌝ }
     requires { ⌜ Blank (now excluded) ⌝ }
     ensures { λ r. ⌜ Tells (siteOf (now (s .entry)) head) (now (included .exit)) (now (excluded .exit)) r ⌝ }
 {
     let d = head.declared();
-    let mut on = [0u64; 576];
+    let mut on = BLANK;
     arrows_of(s, head, included);
     arrows_of(s, head, &mut on);
     add_rings(&mut on, d);

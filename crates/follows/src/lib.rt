@@ -6,6 +6,8 @@ mod filled;
 mod listed;
 mod says;
 
+pub use bits::BLANK;
 pub use bits::NODES;
+pub use bits::Table;
 pub use bits::get;
 pub use filled::fill;

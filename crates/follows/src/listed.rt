@@ -5,13 +5,7 @@ ghost use Rattle.follows.specs.Listed.{countOf, nodeAt};
 use site::BasicConcept;
 use site::BasicRole;
 use site::Declared;
-
-// A number as a wider one.
-pub fn wide(x: u32) -> usize
-    ensures { λ r. ⌜ (r ≡ x) × (r < 4294967296) ⌝ }
-{
-    x as usize
-}
+use site::wide;
 
 // How many declared nodes there are.
 pub fn count(d: Declared) -> usize

@@ -1,4 +1,5 @@
 pub mod Answers
+pub mod Laid
 pub mod Laws
 pub mod One
 pub mod Reading

@@ -23,11 +23,7 @@ impl Num {
         ensures { λ r. ⌜ r ≡ refusalIn self ⌝ }
     {
         match self {
-            Num::Value(_, _) => Refusal {
-                number: 0,
-                side: 0,
-                place: 0,
-            },
+            Num::Value(_, _) => Refusal::NONE,
             Num::Refused(r) => r,
         }
     }

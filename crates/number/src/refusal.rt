@@ -32,4 +32,16 @@ impl Refusal {
     pub const BUNDLE: u32 = 1;
 
     pub const CALL: u32 = 2;
+    // What stands in the place of a refusal where there is none.
+    pub const NONE: Refusal = Refusal {
+        number: 0,
+        side: 0,
+        place: 0,
+    };
+    // "9: a lent output is too short", at place 0 of the call's own arguments.
+    pub const NO_ROOM: Refusal = Refusal {
+        number: Refusal::ROOM,
+        side: Refusal::CALL,
+        place: 0,
+    };
 }

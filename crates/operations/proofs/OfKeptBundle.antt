@@ -36,7 +36,8 @@ use Rattle.clean.specs.Operations.{keeping}
 use Rattle.clean.specs.declared.keep.Measure.{Measure}
 use Rattle.clean.proofs.OfAgreement.{kept-same}
 use Rattle.clean.proofs.OfKeeping.{fact-short}
-use Rattle.operations.specs.Promises.{Accepted, WritesKept, StoresBundle}
+use Rattle.bundle.specs.Opened.{Accepted}
+use Rattle.operations.specs.Promises.{WritesKept, StoresBundle}
 use Rattle.operations.proofs.OfOperations.{as-many, few, given-is, spoken, agree}
 
 nine-each : (l : List Fact) → length (each factBytes l) ≤ 9 * length l

@@ -1,6 +1,6 @@
 -- The operations: under accepted rules and an accepted bundle the tables give what the definitions say; any other input gives its refusal.
-use Prim.Native.Nat.{ℕ, _-_, _≤_, _<_}
-use mathlib.Core.Path.{_≡_, refl, sym, ap, subst, _∙_}
+use Prim.Native.Nat.{ℕ, _≤_, _<_}
+use mathlib.Core.Path.{_≡_, sym, ap, subst, _∙_}
 use mathlib.Core.Bool.{true, and-false}
 use mathlib.Core.List.{List, [], List·Memᴰ, List·Memᴰ·head, List·Memᴰ·tail}
 use lib.ListN.{length, getD}
@@ -19,18 +19,14 @@ use Rattle.site.specs.Limits.{mostFacts}
 use Rattle.site.proofs.Lists.{getD-within}
 use Rattle.rules.specs.Lawful.{Lawful}
 use Rattle.rules.specs.declared.head.Head.{Head}
-use Rattle.rules.specs.declared.check.RulesRead.{RulesRead}
-use Rattle.rules.specs.declared.check.RulesRead.the-variants.{Accepted as RulesAccepted, Refused as RulesRefused}
 use Rattle.rules.specs.RuleFile.{checkRules, siteOf}
-use Rattle.rules.specs.Told.{rulesTold}
 use Rattle.rules.proofs.AcceptedFile.{accepted-lawful as lawful-rules}
 use Rattle.bundle.specs.Bundle.{Last, checkBundle, readBundle, factsOf}
 use Rattle.bundle.specs.Lawful.{LawfulFrom}
 use Rattle.bundle.specs.Lawful.LawfulFrom.{done, next}
-use Rattle.bundle.specs.Told.{bundleTold}
-use Rattle.bundle.specs.declared.check.BundleRead.{BundleRead}
-use Rattle.bundle.specs.declared.check.BundleRead.the-variants.{Accepted as BundleAccepted, Refused as BundleRefused}
+use Rattle.bundle.specs.Opened.{opening, Accepted, openedTold, openedRefusal}
 use Rattle.bundle.specs.declared.facts.Facts.{Facts}
+use Rattle.bundle.proofs.OfOpened.{opening-accepted}
 use Rattle.bundle.proofs.Accepted.{accepted-lawful as lawful-facts, accepted-count}
 use Rattle.follows.specs.Tables.{Follows, followsOf}
 use Rattle.follows.specs.Tells.{Tells}
@@ -40,12 +36,12 @@ use Rattle.clean.specs.Marks.{mark, partner, marks, partners, counts}
 use Rattle.clean.specs.Coded.{hasRole, bitsFollow}
 use Rattle.clean.specs.Tally.{Marks}
 use Rattle.clean.specs.Operations.{given, roomForMarks, marking, counting, asking, having, joining, keeping}
-use Rattle.operations.specs.Promises.{opening, Accepted, openedTold, openedRefusal, countedTold, askedTold, repliedTold, MarksAll, WritesKept}
+use Rattle.operations.specs.Promises.{countedTold, askedTold, repliedTold, MarksAll, WritesKept}
 use Rattle.clean.specs.declared.answers.Counts.{Counts}
 use Rattle.clean.specs.declared.answers.Judged.{Judged}
-use Rattle.operations.specs.declared.open.Inputs.{Inputs}
-use Rattle.operations.specs.declared.open.Opened.{Opened}
-use Rattle.operations.specs.declared.open.Opened.the-variants.{Accepted as Ready, Refused as NotReady}
+use Rattle.bundle.specs.declared.open.Inputs.{Inputs}
+use Rattle.bundle.specs.declared.open.Opened.{Opened}
+use Rattle.bundle.specs.declared.open.Opened.the-variants.{Accepted as Ready, Refused as NotReady}
 use Rattle.operations.specs.declared.mark.Counted.{Counted}
 use Rattle.operations.specs.declared.mark.Counted.the-variants.{Counts as CountsAre, Refused as NotCounted}
 use Rattle.operations.specs.declared.mark.Asked.the-variants.{Judged as JudgedSo, Refused as NotJudged}
@@ -53,43 +49,13 @@ use Rattle.operations.specs.declared.question.Replied.the-variants.{Refu
 use Rattle.bundle.specs.declared.writing.BundleWrote.the-variants.{Refused as NotWritten}
 use Rattle.clean.proofs.OfAgreement.{Agree, AllSpoken, mark-same, partner-same, marks-same, partners-same, counts-same}
 
--- reading both
-pub opened-no-refusal : (o : Opened) (i : Inputs) → o ≡ Ready i → refusal 0 0 0 ≡ openedRefusal o
-opened-no-refusal o i e = rw e
-
-module _ (rules bundle : List ℕ) (n : RulesRead) (is : rulesTold n ≡ checkRules rules) where
-  pub rules-refused : (r : Refusal) → n ≡ RulesRefused r → openedTold (NotReady r) ≡ opening rules bundle
-  unfolding opening
-  rules-refused r e = rw (← is, e)
-
-  module _ (h : Head) (read : n ≡ RulesAccepted h) (m : BundleRead) (is-m : bundleTold m ≡ checkBundle h bundle) where
-    pub bundle-refused : (r : Refusal) → m ≡ BundleRefused r → openedTold (NotReady r) ≡ opening rules bundle
-    unfolding opening
-    bundle-refused r e = rw (← is, read, ← is-m, e)
-
-    pub both-accepted : (b : Facts) → m ≡ BundleAccepted b → openedTold (Ready (record { head = h; facts = b })) ≡ opening rules bundle
-    unfolding opening
-    both-accepted b e = rw (← is, read, ← is-m, e)
-
 -- what opening gives or refuses
 abbrev packed : Head → Facts → Answer Inputs
 packed h b = gives (record { head = h; facts = b })
 
-opening-by-cases : (rules bundle : List ℕ) (i : Inputs) (a : Answer Head) → checkRules rules ≡ a
-    → (a then λ h. checkBundle h bundle then packed h) ≡ gives i → Accepted rules bundle (i .head) (i .facts)
-opening-by-cases rules bundle i (gives h) e k = from (checkBundle h bundle) refl k
-  where
-    from : (a : Answer Facts) → checkBundle h bundle ≡ a → (a then packed h) ≡ gives i → Accepted rules bundle (i .head) (i .facts)
-    from (gives b) f k =
-        let same : record { head = h; facts = b } ≡ i = cc in
-        subst (λ (j : Inputs). Accepted rules bundle (j .head) (j .facts)) same (record { of-rules = e; of-bundle = f })
-    from (refuses r) f k = absurd (let z : _≡_ {A = ℕ} 0 1 = cc in omega arith)
-opening-by-cases rules bundle i (refuses r) e k = absurd (let z : _≡_ {A = ℕ} 0 1 = cc in omega arith)
-
 module _ (rules bundle : List ℕ) (o : Opened) (is : openedTold o ≡ opening rules bundle) where
   pub opened-accepted : (i : Inputs) → o ≡ Ready i → Accepted rules bundle (i .head) (i .facts)
-  unfolding opening
-  opened-accepted i e = opening-by-cases rules bundle i (checkRules rules) refl (sym is ∙ ap openedTold e)
+  opened-accepted i e = opening-accepted rules bundle i (sym is ∙ ap openedTold e)
 
   module _ (r u : Refusal) (stopped : o ≡ NotReady r) (handed : u ≡ openedRefusal o) where
     opening-refused : opening rules bundle ≡ refuses u
@@ -222,4 +188,4 @@ module _ (rules bundle : List ℕ) (h : Head) (b : Facts) (acc : Accepted rules 
   ask-over n past = rw (given-is, as-many, le-ltb n (b .count) past)
 
 pub ruleset operations =
-    (opened-no-refusal, rules-refused, bundle-refused, both-accepted, opened-accepted, mark-refused, count-refused, ask-refused, has-refused, joins-refused, kept-refused, few, count-done, mark-done, ask-done, mark-short, mark-short-pair, ask-over, needs)
+    (opened-accepted, mark-refused, count-refused, ask-refused, has-refused, joins-refused, kept-refused, few, count-done, mark-done, ask-done, mark-short, mark-short-pair, ask-over, needs)

@@ -32,7 +32,8 @@ use Rattle.clean.specs.declared.types.Typ.{Typ}
 use Rattle.clean.proofs.OfAgreement.{any-same, first-same, type-declared, marked-same}
 use Rattle.clean.proofs.OfTests.{any-map}
 use Rattle.clean.proofs.OfTypes.{listed-of}
-use Rattle.operations.specs.Promises.{Accepted, repliedTold, RepliesTo}
+use Rattle.bundle.specs.Opened.{Accepted}
+use Rattle.operations.specs.Promises.{repliedTold, RepliesTo}
 use Rattle.operations.specs.declared.question.Replied.{Replied}
 use Rattle.operations.specs.declared.question.Replied.the-variants.{Yes, No, Refused as NotReplied}
 use Rattle.operations.proofs.OfOperations.{lawful, as-many, few, given-is, spoken, agree}

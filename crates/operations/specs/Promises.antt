@@ -4,12 +4,11 @@ use mathlib.Core.Path.{_≡_}
 use mathlib.Core.Bool.{true}
 use mathlib.Core.List.{List}
 use lib.ListN.{length}
-use Rattle.number.specs.Answer.{Answer, refusal, _then_, over, laid}
+use Rattle.number.specs.Answer.{Answer, over, laid}
 use Rattle.number.specs.Answer.Answer.{gives, refuses}
-use Rattle.number.specs.declared.refusal.Refusal.{Refusal}
 use Rattle.rules.specs.declared.head.Head.{Head}
-use Rattle.rules.specs.RuleFile.{checkRules, siteOf}
-use Rattle.bundle.specs.Bundle.{checkBundle, factsOf}
+use Rattle.rules.specs.RuleFile.{siteOf}
+use Rattle.bundle.specs.Bundle.{factsOf}
 use Rattle.bundle.specs.Pushed.{wroteTold}
 use Rattle.bundle.specs.declared.writing.BundleWrote.{BundleWrote}
 use Rattle.bundle.specs.declared.facts.Facts.{Facts}
@@ -24,9 +23,6 @@ use Rattle.clean.specs.Operations.{Reply, replyOf, marking, keeping}
 use Rattle.clean.specs.Operations.Reply.{yes-by, none}
 use Rattle.clean.specs.declared.answers.Counts.{Counts}
 use Rattle.clean.specs.declared.answers.Judged.{Judged}
-use Rattle.operations.specs.declared.open.Inputs.{Inputs}
-use Rattle.operations.specs.declared.open.Opened.{Opened}
-use Rattle.operations.specs.declared.open.Opened.the-variants.{Accepted as Ready, Refused as NotReady}
 use Rattle.operations.specs.declared.mark.Counted.{Counted}
 use Rattle.operations.specs.declared.mark.Counted.the-variants.{Counts as CountsAre, Refused as NotCounted}
 use Rattle.operations.specs.declared.mark.Asked.{Asked}
@@ -34,25 +30,6 @@ use Rattle.operations.specs.declared.mark.Asked.the-variants.{Judged as 
 use Rattle.clean.specs.declared.types.Typ.{Typ}
 use Rattle.operations.specs.declared.question.Replied.{Replied}
 use Rattle.operations.specs.declared.question.Replied.the-variants.{Yes, No, Refused as NotReplied}
-
--- "rules, then bundle": what both give, or their refusal
-unfoldable pub opening : List ℕ → List ℕ → Answer Inputs
-opening rules bundle = checkRules rules then λ h. checkBundle h bundle then λ b. gives (record { head = h; facts = b })
-
--- accepted rules and an accepted bundle
-pub record Accepted (rules bundle : List ℕ) (h : Head) (b : Facts) : Type 0 where
-  pub of-rules : checkRules rules ≡ gives h
-  pub of-bundle : checkBundle h bundle ≡ gives b
-
--- document 01's number and values for each case of the answers
-abbrev pub openedTold : Opened → Answer Inputs
-openedTold (Ready i) = gives i
-openedTold (NotReady r) = refuses r
-
--- the refusal in it; there is none in files that were read
-abbrev pub openedRefusal : Opened → Refusal
-openedRefusal (Ready i) = refusal 0 0 0
-openedRefusal (NotReady r) = r
 
 -- counts, or the refusal
 abbrev pub countedTold : Counted → Answer Counts

@@ -4,16 +4,19 @@ ghost use mathlib.Core.List.{[], _++_};
 ghost use lib.Seq.{sets};
 ghost use Rattle.number.specs.Number.{bytesOf};
 ghost use Rattle.bundle.specs.Bundle.{factsOf};
+ghost use Rattle.bundle.specs.Opened.{Accepted};
 ghost use Rattle.clean.specs.Coded.{bitsFollow};
 ghost use Rattle.clean.specs.Keeping.{keptBytes};
-ghost use Rattle.operations.specs.Promises.{Accepted, WritesKept, StoresBundle};
-use crate::open::Opened;
-use crate::open::open_inputs;
+ghost use Rattle.operations.specs.Promises.{WritesKept, StoresBundle};
 use bundle::BundleWrote;
 use bundle::Facts;
+use bundle::Opened;
+use bundle::open_inputs;
 use bundle::put_number;
 use clean::measure_kept;
 use clean::store_kept;
+use follows::BLANK;
+use follows::Table;
 use follows::fill;
 use number::Refusal;
 use number::size_of_number;
@@ -25,7 +28,7 @@ fn store_bundle(
     count: u32,
     bundle: &[u8],
     facts: Facts,
-    excluded: &[u64; 576],
+    excluded: &Table,
     functional: u64,
 )
     requires { ⌜ StoresBundle (bitsFollow [] (now excluded) functional) (now bundle) facts count (now out) ⌝ }
@@ -45,17 +48,13 @@ fn write_accepted(
     requires { ⌜ Accepted (now rules) (now bundle) head facts ⌝ }
     ensures { λ r. ⌜ WritesKept (now (rules .entry)) (now (bundle .entry)) (now (out .entry)) r (now (out .exit)) ⌝ }
 {
-    let mut included = [0u64; 576];
-    let mut excluded = [0u64; 576];
+    let mut included = BLANK;
+    let mut excluded = BLANK;
     let functional = fill(rules, head, &mut included, &mut excluded);
     let measure = measure_kept(bundle, facts, &excluded, functional);
     let length = size_of_number(measure.count) + measure.size;
     if out.len() < length {
-        return BundleWrote::Refused(Refusal {
-            number: Refusal::ROOM,
-            side: Refusal::CALL,
-            place: 0,
-        });
+        return BundleWrote::Refused(Refusal::NO_ROOM);
     }
     store_bundle(out, measure.count, bundle, facts, &excluded, functional);
     BundleWrote::Written(length)

@@ -1,7 +1,6 @@
-// The operations on rules and a bundle: reading both, marking, counting, asking, the two questions, and writing the kept facts.
+// The operations on rules and a bundle: marking, counting, asking, the two questions, and writing the kept facts.
 mod kept;
 mod mark;
-mod open;
 mod question;
 
 pub use kept::write_kept;
@@ -10,9 +9,6 @@ pub use mark::Counted;
 pub use mark::ask_fact;
 pub use mark::count_bundle;
 pub use mark::mark_bundle;
-pub use open::Inputs;
-pub use open::Opened;
-pub use open::open_inputs;
 pub use question::Replied;
 pub use question::has_concept;
 pub use question::joins_things;

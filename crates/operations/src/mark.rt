@@ -1,16 +1,18 @@
 // Marking a bundle, counting its marks, and asking about one fact.
 ghost use mathlib.Core.Path.{_≡_};
+ghost use Rattle.bundle.specs.Opened.{Accepted};
 ghost use Rattle.clean.specs.Operations.{counting, asking};
-ghost use Rattle.operations.specs.Promises.{Accepted, MarksAll, countedTold, askedTold};
-use crate::open::Opened;
-use crate::open::open_inputs;
+ghost use Rattle.operations.specs.Promises.{MarksAll, countedTold, askedTold};
 use bundle::Facts;
+use bundle::Opened;
+use bundle::open_inputs;
 use clean::Counts;
 use clean::Judged;
 use clean::count_facts;
 use clean::fact_number;
 use clean::judge;
 use clean::mark_facts;
+use follows::BLANK;
 use follows::fill;
 use number::Refusal;
 use rules::Head;
@@ -30,11 +32,7 @@ pub enum Asked {
 fn no_room() -> Counted
     ensures { λ r. ⌜ r ≡ Counted.Refused (record { number = 9; side = 2; place = 0 }) ⌝ }
 {
-    Counted::Refused(Refusal {
-        number: Refusal::ROOM,
-        side: Refusal::CALL,
-        place: 0,
-    })
+    Counted::Refused(Refusal::NO_ROOM)
 }
 
 fn mark_accepted(
@@ -55,8 +53,8 @@ fn mark_accepted(
     if partners.len() < count {
         return no_room();
     }
-    let mut included = [0u64; 576];
-    let mut excluded = [0u64; 576];
+    let mut included = BLANK;
+    let mut excluded = BLANK;
     let functional = fill(rules, head, &mut included, &mut excluded);
     Counted::Counts(mark_facts(bundle, facts, &excluded, functional, marks, partners))
 }
@@ -76,8 +74,8 @@ fn count_accepted(rules: &[u8], head: Head, bundle: &[u8], facts: Facts) -> Coun
     requires { ⌜ Accepted (now rules) (now bundle) head facts ⌝ }
     ensures { λ r. ⌜ countedTold r ≡ counting (now (rules .entry)) (now (bundle .entry)) ⌝ }
 {
-    let mut included = [0u64; 576];
-    let mut excluded = [0u64; 576];
+    let mut included = BLANK;
+    let mut excluded = BLANK;
     let functional = fill(rules, head, &mut included, &mut excluded);
     Counted::Counts(count_facts(bundle, facts, &excluded, functional))
 }
@@ -104,8 +102,8 @@ fn ask_accepted(rules: &[u8], head: Head, bundle: &[u8], facts: Facts, number: u
             place: 0,
         });
     }
-    let mut included = [0u64; 576];
-    let mut excluded = [0u64; 576];
+    let mut included = BLANK;
+    let mut excluded = BLANK;
     let functional = fill(rules, head, &mut included, &mut excluded);
     let f = fact_number(bundle, facts, number as u32);
     Asked::Judged(judge(bundle, facts, &excluded, functional, f))

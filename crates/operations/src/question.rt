@@ -1,12 +1,14 @@
 // The two simple questions.
 ghost use mathlib.Core.Path.{_≡_};
+ghost use Rattle.bundle.specs.Opened.{Accepted};
 ghost use Rattle.clean.specs.Operations.{having, joining};
-ghost use Rattle.operations.specs.Promises.{Accepted, repliedTold, RepliesTo};
-use crate::open::Opened;
-use crate::open::open_inputs;
+ghost use Rattle.operations.specs.Promises.{repliedTold, RepliesTo};
 use bundle::Facts;
+use bundle::Opened;
+use bundle::open_inputs;
 use clean::Typ;
 use clean::lowest_support;
+use follows::BLANK;
 use follows::fill;
 use number::Num;
 use number::Refusal;
@@ -36,8 +38,8 @@ fn reply(rules: &[u8], head: Head, bundle: &[u8], facts: Facts, asked: Typ) -> R
     requires { ⌜ Accepted (now rules) (now bundle) head facts ⌝ }
     ensures { λ r. ⌜ RepliesTo (now (rules .entry)) head (now (bundle .entry)) facts asked r ⌝ }
 {
-    let mut included = [0u64; 576];
-    let mut excluded = [0u64; 576];
+    let mut included = BLANK;
+    let mut excluded = BLANK;
     let functional = fill(rules, head, &mut included, &mut excluded);
     let found = lowest_support(bundle, facts, &included, &excluded, functional, asked);
     if found < facts.count {

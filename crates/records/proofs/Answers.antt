@@ -10,18 +10,14 @@ use Rattle.number.specs.Answer.{refusal}
 use Rattle.number.specs.Answer.Answer.{gives, refuses}
 use Rattle.number.specs.declared.refusal.Refusal.{Refusal}
 use Rattle.site.specs.declared.fact.Fact.{Fact}
-use Rattle.rules.specs.RuleFile.{checkRules}
-use Rattle.rules.specs.Told.{rulesTold}
-use Rattle.rules.specs.declared.head.Head.{Head}
-use Rattle.rules.specs.declared.check.RulesRead.{RulesRead}
-use Rattle.rules.specs.declared.check.RulesRead.the-variants.{Accepted as RulesAccepted, Refused as RulesRefused}
-use Rattle.bundle.specs.Bundle.{factAt, checkBundle}
-use Rattle.bundle.specs.Told.{factTold, bundleTold}
-use Rattle.bundle.specs.declared.facts.Facts.{Facts}
+use Rattle.bundle.specs.Bundle.{factAt}
+use Rattle.bundle.specs.Opened.{opening, openedTold}
+use Rattle.bundle.specs.Told.{factTold}
 use Rattle.bundle.specs.declared.one.FactRead.{FactRead}
 use Rattle.bundle.specs.declared.one.FactRead.the-variants.{Read as ReadFact, Refused as RefusedFact}
-use Rattle.bundle.specs.declared.check.BundleRead.{BundleRead}
-use Rattle.bundle.specs.declared.check.BundleRead.the-variants.{Accepted as BundleAccepted, Refused as BundleRefused}
+use Rattle.bundle.specs.declared.open.Inputs.{Inputs}
+use Rattle.bundle.specs.declared.open.Opened.{Opened}
+use Rattle.bundle.specs.declared.open.Opened.the-variants.{Accepted as Ready, Refused as NotReady}
 use Rattle.records.specs.Reading.{Stepped, readerStart, readerStep}
 use Rattle.records.specs.Reading.Found.{fact, done}
 use Rattle.records.specs.Rows.{recordOf, handOut, takeAt}
@@ -30,42 +26,31 @@ use Rattle.records.specs.declared.record.Record.{Record}
 use Rattle.records.specs.declared.hand.Hand.{Hand}
 use Rattle.records.specs.declared.hand.Taken.{Taken}
 
--- what the rules said, and then the bundle
-module _ (rules bundle : List ℕ) (a : RulesRead) (is : rulesTold a ≡ checkRules rules) where
-  module _ (r : Refusal) (stopped : a ≡ RulesRefused r) where
-    pub start-no-rules : refuses r ≡ readerStart rules bundle
+-- what reading both files said
+module _ (rules bundle : List ℕ) (o : Opened) (is : openedTold o ≡ opening rules bundle) where
+  module _ (r : Refusal) (stopped : o ≡ NotReady r) where
+    pub start-refused : refuses r ≡ readerStart rules bundle
     unfolding readerStart
-    start-no-rules = rw (← is, stopped)
+    start-refused = rw (← is, stopped)
 
-    pub hand-no-rules : (room : ℕ) (h : Hand) → h ≡ decided (refuses r) → h ≡ decided (handOut rules bundle room)
+    pub hand-refused : (room : ℕ) (h : Hand) → h ≡ decided (refuses r) → h ≡ decided (handOut rules bundle room)
     unfolding handOut
-    hand-no-rules room h is-h = rw (← is, stopped) is-h
+    hand-refused room h is-h = rw (← is, stopped) is-h
 
-  module _ (head : Head) (read : a ≡ RulesAccepted head) (b : BundleRead) (is-b : bundleTold b ≡ checkBundle head bundle) where
-    module _ (r : Refusal) (stopped : b ≡ BundleRefused r) where
-      pub start-no-bundle : refuses r ≡ readerStart rules bundle
-      unfolding readerStart
-      start-no-bundle = rw (← is, read, ← is-b, stopped)
+  module _ (i : Inputs) (accepted : o ≡ Ready i) where
+    pub start-there : gives (i .facts .start) ≡ readerStart rules bundle
+    unfolding readerStart
+    start-there = rw (← is, accepted)
 
-      pub hand-no-bundle : (room : ℕ) (h : Hand) → h ≡ decided (refuses r) → h ≡ decided (handOut rules bundle room)
-      unfolding handOut
-      hand-no-bundle room h is-h = rw (← is, read, ← is-b, stopped) is-h
+    pub hand-no-room : (room count : ℕ) → count ≡ i .facts .count → room < count → (h : Hand) → h ≡ decided (refuses (refusal 9 2 0))
+        → h ≡ decided (handOut rules bundle room)
+    unfolding handOut
+    hand-no-room room count is-count short h is-h = rw (← is, accepted, ← is-count, lt-leb count room short) is-h
 
-    module _ (facts : Facts) (accepted : b ≡ BundleAccepted facts) where
-      pub start-there : gives (facts .start) ≡ readerStart rules bundle
-      unfolding readerStart
-      start-there = rw (← is, read, ← is-b, accepted)
-
-      pub hand-no-room : (room count : ℕ) → count ≡ facts .count → room < count → (h : Hand) → h ≡ decided (refuses (refusal 9 2 0))
-          → h ≡ decided (handOut rules bundle room)
-      unfolding handOut
-      hand-no-room room count is-count short h is-h =
-          rw (← is, read, ← is-b, accepted, ← is-count, lt-leb count room short) is-h
-
-      pub hand-there : (room count : ℕ) → count ≡ facts .count → count ≤ room
-          → _≡_ {A = Hand} (record { count = count; start = facts .start; handed = rowAnswer (gives count) }) (decided (handOut rules bundle room))
-      unfolding handOut
-      hand-there room count is-count fits = rw (← is, read, ← is-b, accepted, ← is-count, le-leb count room fits)
+    pub hand-there : (room count : ℕ) → count ≡ i .facts .count → count ≤ room
+        → _≡_ {A = Hand} (record { count = count; start = i .facts .start; handed = rowAnswer (gives count) }) (decided (handOut rules bundle room))
+    unfolding handOut
+    hand-there room count is-count fits = rw (← is, accepted, ← is-count, le-leb count room fits)
 
 -- one step of a reader
 pub step-done : (bundle : List ℕ) (at : ℕ) → length bundle ≤ at → _≡_ {A = Stepped} (record { yields = gives done; next = at }) (readerStep bundle at)
@@ -91,4 +76,4 @@ module _ (bundle : List ℕ) (at : ℕ) (a : FactRead) (is : factTold a ≡ fact
     unfolding takeAt
     take-nothing = rw (← is, stopped)
 
-pub ruleset answers = (start-no-rules, hand-no-rules, start-no-bundle, hand-no-bundle, start-there, hand-no-room, hand-there, step-done, step-fact, take-fact, step-refused, take-nothing, needs)
+pub ruleset answers = (start-refused, hand-refused, start-there, hand-no-room, hand-there, step-done, step-fact, take-fact, step-refused, take-nothing, needs)

@@ -18,7 +18,7 @@ pub use prog.Model.{Model}
 pub use prog.Routine.{Routine, Name}
 pub use prog.Wp.{Heap, Env, Calls, Loops, WpFn, Closed, Tables}
 pub use ghost.Atoms.{Atoms, sem}
-pub use contract.Lifetimes.{Lfts, AllOutlive}
+pub use contract.Lifetimes.{AllOutlive}
 pub use contract.Monad.{Fun, fact}
 pub use contract.Running.{GhostRules, Running, givenOf, tables}
 pub use types.Kit.{Given, Item, Seq, runs, lands, atRet, anyQ, ‵, raw, _⊛_, given, ⋆, some, later, _$_, _∵_, !, Go, qed, by, move, keep, drop, use1, use2, use3, split, join, learn, pick, rewrite, fsplit, fsplit3, fjoin, fjoin3, feqL, feqI, suffices, frame, await, done}
@@ -39,10 +39,8 @@ pub use denote.Slice.{sliceVal, sliceTy, MutSlice, ShrSlice, Room, at-slice, fin
 pub use denote.Lend.{Held}
 pub use denote.Index.{place-is, row, elem-out, elem-put, elem-back, opens-slice, closes-slice, looks-slice, shuts-slice}
 pub use denote.Steps.{only, opens, closes, owned, peeks, heard, nothing}
-pub use denote.Struct.Declared.{Declared}
-pub use denote.Struct.Rest.{all-own, ownAt, rest, own-open, own-out, own-put, own-shut}
+pub use denote.Struct.Rest.{all-own, ownAt, rest, own-open, own-out, own-put}
 pub use denote.Struct.Steps.{spelt}
-pub use denote.Struct.Values.{Values}
 pub use denote.Triple.Statement.{Contract, Triple}
 pub use denote.Triple.Call.{calls-at}
 pub use denote.Triple.Clauses.{Clauses, Ended, ensured, lasts, Lasts, closing}

@@ -26,6 +26,7 @@ use Rattle.bundle.specs.declared.facts.Facts.{Facts}
 use Rattle.bundle.proofs.Runs.{FactThere, fact-read, any-there, fact-by-rest, Run}
 use Rattle.bundle.proofs.Runs.Run.{stop, more}
 use Rattle.bundle.proofs.Accepted.{bundle-there}
+use Rattle.bundle.proofs.OfOpened.{opening-given}
 use Rattle.records.specs.Reading.{Found, Stepped, goesOn, readerStart, readerStep, yieldsFrom}
 use Rattle.records.specs.Reading.Found.{fact, done}
 
@@ -70,7 +71,7 @@ module _ (s : List ℕ) where
 module _ (rules s : List ℕ) (h : Head) (b : Facts) (rules-read : checkRules rules ≡ gives h) (bundle-read : checkBundle h s ≡ gives b) where
   pub starts : readerStart rules s ≡ gives (b .start)
   unfolding readerStart
-  starts = rw (rules-read, bundle-read)
+  starts = rw (opening-given rules s h b (record { of-rules = rules-read; of-bundle = bundle-read }))
 
   pub yields-all : (k : ℕ) → yieldsFrom s (b .count + k) (b .start) ≡ map yielded (factsOf s b) ++ replicate k (gives done)
   yields-all k =

@@ -23,10 +23,11 @@ use Rattle.bundle.specs.Lawful.{LawfulFact, LawfulFrom, LawfulFacts}
 use Rattle.bundle.specs.Lawful.LawfulFrom.{done, next as one-more}
 use Rattle.bundle.specs.Records.{roomFor, recordFault, recordsFrom, planRecords}
 use Rattle.bundle.specs.declared.facts.Facts.{Facts}
+use Rattle.bundle.specs.Opened.{Accepted}
 use Rattle.bundle.proofs.Accepted.{accepted-lawful}
+use Rattle.bundle.proofs.OfOpened.{opening-given}
 use Rattle.bundle.proofs.RoundTrips.{writtenHead, written-accepted, written-facts, accepted-again}
-use Rattle.bundle.proofs.Rewriting.{lawful-sound}
-use Rattle.bundle.proofs.Faults.{Sound, same-fault}
+use Rattle.bundle.proofs.Faults.{Sound, same-fault, lawful-sound}
 use Rattle.bundle.proofs.Faults.Sound.{no-more, sound}
 use Rattle.records.specs.Rows.{recordOf, factOf, handOut, handRecords, writeRow}
 use Rattle.records.specs.declared.record.Record.{Record}
@@ -140,5 +141,6 @@ in-and-out rules bytes room row e room′ fits =
     let few = few-roles rules (w .value) (w .first) in
     let lawful : LawfulFacts (w .value) facts = record { few = leb-true (length facts) mostFacts (p .test); lawful = accepted-from (w .value) few none 0 (v .value) facts (p .answer) } in
     let long : length facts ≤ room′ = omega (arith, length-map row factOf) in
-    rw (w .first, accepted (w .value) few facts lawful bytes same, le-leb (length facts) room′ long)
+    let both : Accepted rules bytes (w .value) (writtenHead facts) = record { of-rules = w .first; of-bundle = accepted (w .value) few facts lawful bytes same } in
+    rw (opening-given rules bytes (w .value) (writtenHead facts) both, le-leb (length facts) room′ long)
     (ap gives (ap (map recordOf) (read-facts (w .value) few facts lawful bytes same) ∙ records-back row))

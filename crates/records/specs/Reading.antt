@@ -4,15 +4,15 @@ use mathlib.Core.Bool.{true, cond}
 use mathlib.Core.List.{List, [], _∷_}
 use lib.ListN.{length}
 use lib.Dec.{ltb}
-use Rattle.number.specs.Answer.{Answer, Read, _then_, over}
+use Rattle.number.specs.Answer.{Answer, Read, over}
 use Rattle.number.specs.Answer.Answer.{gives, refuses}
 use Rattle.site.specs.declared.fact.Fact.{Fact}
-use Rattle.rules.specs.RuleFile.{checkRules}
-use Rattle.bundle.specs.Bundle.{factAt, checkBundle}
+use Rattle.bundle.specs.Bundle.{factAt}
+use Rattle.bundle.specs.Opened.{opening}
 
 -- "It starts on an accepted bundle": the first next byte is the one after the count
 unfoldable pub readerStart : List ℕ → List ℕ → Answer ℕ
-readerStart rules bundle = checkRules rules then λ h. over (λ b. b .start) (checkBundle h bundle)
+readerStart rules bundle = over (λ i. i .facts .start) (opening rules bundle)
 
 -- what a reader finds: "the fact whose numbers stand at its next byte", or that "it is done"
 pub data Found : Type 0 where

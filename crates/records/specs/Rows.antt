@@ -1,14 +1,14 @@
 -- Rows of records: what is handed out of a bundle, and what a row holds afterwards.
 use Prim.Native.Nat.{ℕ}
 use mathlib.Core.Bool.{true, cond}
-use mathlib.Core.List.{List, _++_, map}
-use lib.ListN.{length, drop}
+use mathlib.Core.List.{List, map}
 use lib.Dec.{leb}
 use Rattle.number.specs.Answer.{Answer, Read, refusal, _then_, over}
 use Rattle.number.specs.Answer.Answer.{gives, refuses}
 use Rattle.site.specs.declared.fact.Fact.{Fact}
 use Rattle.rules.specs.RuleFile.{checkRules}
-use Rattle.bundle.specs.Bundle.{factAt, checkBundle, factsOf}
+use Rattle.bundle.specs.Bundle.{factAt, factsOf}
+use Rattle.bundle.specs.Opened.{opening}
 use Rattle.bundle.specs.Records.{planRecords}
 use Rattle.bundle.specs.declared.facts.Facts.{Facts}
 use Rattle.records.specs.declared.record.Record.{Record}
@@ -25,16 +25,11 @@ factOf r = record { predicate = r .predicate; subject = r .subject; object = r .
 -- the head of an accepted bundle whose facts there is room for; refusals of rules, of the bundle, then 9
 unfoldable pub handOut : List ℕ → List ℕ → ℕ → Answer Facts
 handOut rules bundle room =
-    checkRules rules then λ h. checkBundle h bundle then λ b. cond (leb (b .count) room) (gives b) (refuses (refusal 9 2 0))
+    opening rules bundle then λ i. cond (leb (i .facts .count) room) (gives (i .facts)) (refuses (refusal 9 2 0))
 
--- the records that are handed out
+-- "The console receives the facts as a lent row of fact records": the records that are handed out
 unfoldable pub handRecords : List ℕ → List ℕ → ℕ → Answer (List Record)
 handRecords rules bundle room = over (λ b. map recordOf (factsOf bundle b)) (handOut rules bundle room)
-
--- "The console receives the facts as a lent row of fact records": they come first, and what is past them stays as it was
-abbrev pub rowAfter : List Record → Answer (List Record) → List Record
-rowAfter row (gives records) = records ++ drop (length records) row
-rowAfter row (refuses r) = row
 
 -- the record at a place of the bundle, and the place after it; an empty one where there is none
 abbrev pub takenOf : ℕ → Answer (Read Fact) → Taken

@@ -4,12 +4,12 @@ use mathlib.Core.Path.{_≡_}
 use mathlib.Core.List.{List}
 use lib.ListN.{length}
 use denote.Ref.{now}
-use Rattle.number.specs.Answer.{Answer, over}
+use Rattle.number.specs.Answer.{Answer, over, laid}
 use Rattle.number.specs.Answer.Answer.{gives, refuses}
 use Rattle.bundle.specs.declared.facts.Facts.{Facts}
 use Rattle.records.specs.Reading.{Found, Stepped, readerStep}
 use Rattle.records.specs.Reading.Found.{fact, done}
-use Rattle.records.specs.Rows.{handRecords, rowAfter}
+use Rattle.records.specs.Rows.{handRecords}
 use Rattle.records.specs.declared.step.Started.{Started}
 use Rattle.records.specs.declared.step.Started.the-variants.{At, Refused as RefusedStart}
 use Rattle.records.specs.declared.step.Yield.{Yield}
@@ -54,4 +54,4 @@ decided (refuses r) = record { count = 0; start = 0; handed = rowAnswer (refuses
 -- handing the facts out: the answer, and the lent row afterwards
 pub record Hands (rules bundle : List ℕ) (row : List Record) (r : RowAnswer) (row′ : List Record) : Type 0 where
   pub answer : r ≡ rowAnswer (over length (handRecords rules bundle (length row)))
-  pub memory : row′ ≡ rowAfter row (handRecords rules bundle (length row))
+  pub memory : row′ ≡ laid row 0 (handRecords rules bundle (length row))

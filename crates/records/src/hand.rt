@@ -5,13 +5,11 @@ ghost use Rattle.number.specs.Answer.Answer.{refuses};
 ghost use Rattle.records.specs.Told.{decided, Hands};
 use crate::answer::RowAnswer;
 use crate::record::Record;
-use bundle::BundleRead;
 use bundle::FactRead;
+use bundle::Opened;
 use bundle::any_fact_at;
-use bundle::check_bundle;
+use bundle::open_inputs;
 use number::Refusal;
-use rules::RulesRead;
-use rules::check_rules;
 
 // What is handed out: so many facts from a place of the bundle, none where there is a refusal.
 pub struct Hand {
@@ -45,31 +43,24 @@ fn refuse(r: Refusal) -> Hand
 pub fn decide(rules: &[u8], bundle: &[u8], room: usize) -> Hand
     ensures { λ r. ⌜ r ≡ decided (handOut (now (rules .entry)) (now (bundle .entry)) room) ⌝ }
 {
-    match check_rules(rules) {
-        RulesRead::Refused(r) => refuse(r),
-        RulesRead::Accepted(head) => match check_bundle(bundle, head) {
-            BundleRead::Refused(r) => refuse(r),
-            BundleRead::Accepted(facts) => {
-                let count = facts.count as usize;
-                if room < count {
-                    return refuse(Refusal {
-                        number: Refusal::ROOM,
-                        side: Refusal::CALL,
-                        place: 0,
-                    });
-                }
-                Hand {
-                    count,
-                    start: facts.start,
-                    handed: RowAnswer {
-                        number: 0,
-                        side: 0,
-                        place: 0,
-                        length: count,
-                    },
-                }
+    match open_inputs(rules, bundle) {
+        Opened::Refused(r) => refuse(r),
+        Opened::Accepted(inputs) => {
+            let count = inputs.facts.count as usize;
+            if room < count {
+                return refuse(Refusal::NO_ROOM);
             }
-        },
+            Hand {
+                count,
+                start: inputs.facts.start,
+                handed: RowAnswer {
+                    number: 0,
+                    side: 0,
+                    place: 0,
+                    length: count,
+                },
+            }
+        }
     }
 }
 

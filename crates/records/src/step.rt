@@ -2,13 +2,11 @@
 ghost use mathlib.Core.Path.{_≡_};
 ghost use Rattle.records.specs.Reading.{readerStart, readerStep};
 ghost use Rattle.records.specs.Told.{startTold, stepTold};
-use bundle::BundleRead;
 use bundle::FactRead;
+use bundle::Opened;
 use bundle::any_fact_at;
-use bundle::check_bundle;
+use bundle::open_inputs;
 use number::Refusal;
-use rules::RulesRead;
-use rules::check_rules;
 use site::Fact;
 
 // Where a reader starts: the place after the count, or the refusal.
@@ -34,12 +32,9 @@ pub struct Step {
 pub fn start(rules: &[u8], bundle: &[u8]) -> Started
     ensures { λ r. ⌜ startTold r ≡ readerStart (now (rules .entry)) (now (bundle .entry)) ⌝ }
 {
-    match check_rules(rules) {
-        RulesRead::Refused(r) => Started::Refused(r),
-        RulesRead::Accepted(head) => match check_bundle(bundle, head) {
-            BundleRead::Refused(r) => Started::Refused(r),
-            BundleRead::Accepted(facts) => Started::At(facts.start),
-        },
+    match open_inputs(rules, bundle) {
+        Opened::Refused(r) => Started::Refused(r),
+        Opened::Accepted(inputs) => Started::At(inputs.facts.start),
     }
 }
 

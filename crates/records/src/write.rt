@@ -46,11 +46,7 @@ pub fn open_row(rules: &[u8], records: usize, room: usize) -> Opening
         },
         RulesRead::Accepted(head) => Opening {
             accepted: true,
-            refusal: Refusal {
-                number: 0,
-                side: 0,
-                place: 0,
-            },
+            refusal: Refusal::NONE,
             head,
             turns: records,
             first: Writing::start(records, room, false),

@@ -13,7 +13,7 @@ use Rattle.site.specs.Codes.{conceptDeclared, roleDeclared, conceptOf, roleOf, 
 use Rattle.site.specs.Kinds.{Rule, Site, declared, declaredRole}
 use Rattle.site.specs.Kinds.Node.{concept}
 use Rattle.site.specs.Items.{codeAt, countAt}
-use Rattle.site.specs.Limits.{mostConcepts, mostRoles, mostRules, lastKind}
+use Rattle.site.specs.Limits.{mostConcepts, mostRoles, mostRules, lastKind, functionalKind}
 use Rattle.site.proofs.Lists.{and-both}
 use Rattle.site.proofs.There.{count-there, code-there}
 use Rattle.site.proofs.OfKinds.{role-declared, concept-declared}
@@ -52,7 +52,7 @@ module _ (h : Head) (rules : List Rule) where
     rest : ℕ → Read ℕ → Answer (Read Rule)
     rest kind x = codeAt s (x .next) (codeDeclared h kind) 0 then λ y. gives (record { value = ruleOf kind (x .value) (y .value); next = y .next })
 
-    after-first : (kind : ℕ) (x : Read ℕ) (four : Bool) → eqb kind lastKind ≡ four → kind ≤ lastKind → codeDeclared h kind (x .value) ≡ true
+    after-first : (kind : ℕ) (x : Read ℕ) (four : Bool) → eqb kind functionalKind ≡ four → kind ≤ lastKind → codeDeclared h kind (x .value) ≡ true
         → cond four (gives (record { value = ruleOf kind (x .value) 0; next = x .next })) (rest kind x) ≡ gives r
         → ruleDeclared site (r .value) ≡ true
     unfolding rest
@@ -73,7 +73,7 @@ module _ (h : Head) (rules : List Rule) where
     rule-is-declared at e =
         let kind = went (codeAt s at (λ kind. leb kind lastKind) 0) _ e in
         let x = went (codeAt s (kind .value .next) (codeDeclared h (kind .value .value)) 0) _ (kind .rest) in
-        after-first (kind .value .value) (x .value) (eqb (kind .value .value) lastKind) refl
+        after-first (kind .value .value) (x .value) (eqb (kind .value .value) functionalKind) refl
         (leb-true (kind .value .value) lastKind (code-there s at (λ k. leb k lastKind) 0 (kind .value) (kind .first) .holds))
         (code-there s (kind .value .next) (codeDeclared h (kind .value .value)) 0 (x .value) (x .first) .holds)
         (x .rest)

@@ -22,6 +22,7 @@ use Rattle.site.specs.Told.{ruleTold, endTold}
 use Rattle.site.specs.declared.items.End.{End}
 use Rattle.site.specs.declared.items.End.the-variants.{At, Refused}
 use Rattle.site.specs.declared.nodes.BasicRole.{BasicRole as RoleCode}
+use Rattle.site.specs.declared.nodes.Role.{Role}
 use Rattle.site.specs.declared.rule.Rule.{Rule}
 use Rattle.site.specs.declared.rule.Rule.the-variants.{RoleIncluded, Functional}
 use Rattle.site.proofs.OfKinds.{role-number}
@@ -37,12 +38,12 @@ use Rattle.rules.specs.declared.read.RuleRead.{RuleRead}
 use Rattle.rules.specs.declared.read.RuleRead.the-variants.{Read as RuleIs, Refused as RuleRefused}
 
 -- the role on the right of one rule
-module _ (rule : Rule) (q : RoleCode) (n : ℕ) (half : n ≡ q .code / 2) where
-  pub right-is : (r : ℕ) (p : RoleCode) → rule ≡ RoleIncluded p q → r ≡ min n mostRoles → r ≡ rightRole (ruleTold rule)
-  right-is r p e k = rw (e, role-number (q .code), ← half) k
+module _ (rule : Rule) (q : RoleCode) (j : Role) (half : j ≡ record { number = q .code / 2 }) where
+  pub right-is : (r : ℕ) (p : RoleCode) → rule ≡ RoleIncluded p q → r ≡ min (j .number) mostRoles → r ≡ rightRole (ruleTold rule)
+  right-is r p e k = rw (e, role-number (q .code)) (rw half at k)
 
-  pub right-broken : (right : List Bool) (b : Bool) → rule ≡ Functional q → b ≡ rightAt right n → b ≡ brokenBy right (ruleTold rule)
-  right-broken right b e k = rw (e, role-number (q .code), ← half) k
+  pub right-broken : (right : List Bool) (b : Bool) → rule ≡ Functional q → b ≡ rightAt right (j .number) → b ≡ brokenBy right (ruleTold rule)
+  right-broken right b e k = rw (e, role-number (q .code)) (rw half at k)
 
 pub right-in : (right : List Bool) (role : ℕ) → role < mostRoles → getD right role false ≡ rightAt right role
 unfolding rightAt
@@ -146,7 +147,7 @@ right-role-least (roleIncluded p q) = omega arith
 right-role-least (roleDisjoint p q) = omega arith
 right-role-least (functional q) = omega arith
 
-pub right-entry : (rule : SaidRule) (r : ℕ) → r ≡ rightRole rule → r < 33
+pub right-entry : (rule : SaidRule) (r : ℕ) → r ≡ rightRole rule → r < mostRoles + 1
 right-entry rule r e = omega (arith, right-role-least rule)
 
 -- what one store does to the entry of a role
@@ -187,8 +188,8 @@ module _ (whole : List SaidRule) (right : List Bool) where
                 (so .each-role j k);
           }
 
-pub rights-start : (whole : List SaidRule) → RightsSoFar whole whole (replicate 33 false)
-rights-start whole = record { all = refl; each-role = λ j h. rw (getD-replicate 33 j false false (omega arith)) }
+pub rights-start : (whole : List SaidRule) → RightsSoFar whole whole (replicate (mostRoles + 1) false)
+rights-start whole = record { all = refl; each-role = λ j h. rw (getD-replicate (mostRoles + 1) j false false (omega arith)) }
 
 -- the table of roles on the right decides which functional rules are broken
 broken-by : (h : Head) (s : List ℕ) (at : ℕ) (rules : List SaidRule) (right : List Bool) → Rights rules right → h .roles ≤ mostRoles

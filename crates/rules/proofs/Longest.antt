@@ -14,7 +14,7 @@ use Rattle.number.proofs.Answers.{Given, given-gives, given-test, given-then, t
 use Rattle.number.proofs.Laws.{Bytes, two-bytes, one-form, one-byte}
 use Rattle.site.specs.Codes.{conceptDeclared, roleDeclared}
 use Rattle.site.specs.Items.{countAt, codeAt, endAt}
-use Rattle.site.specs.Limits.{mostNumber, mostConcepts, mostRoles, mostRules, lastKind}
+use Rattle.site.specs.Limits.{mostNumber, mostConcepts, mostRoles, mostRules, lastKind, functionalKind}
 use Rattle.site.proofs.There.{count-there, code-there, same-count, same-code}
 use Rattle.rules.specs.RuleFile.{headOf, codeDeclared, ruleAt, rulesFrom, afterRules, checkRules}
 use Rattle.rules.specs.declared.head.Head.{Head}
@@ -87,7 +87,7 @@ module _ (s : List ℕ) (bytes : Bytes s) where
         (λ x f.
         let first = after-kind at kind e in
         let second = after-code (kind .value) (kind .next) x f in
-        given-test _ (eqb (kind .value) lastKind) _ _ (given-gives _ _ (omega arith))
+        given-test _ (eqb (kind .value) functionalKind) _ _ (given-gives _ _ (omega arith))
         (given-then _ (codeAt s (x .next) (codeDeclared h (kind .value)) 0) _
         (λ y g. given-gives _ _ (omega (arith, after-code (kind .value) (x .next) y g))))))
 

@@ -15,7 +15,7 @@ use Rattle.number.specs.declared.read.Num.{Num}
 use Rattle.number.specs.declared.read.Num.the-variants.{Value, Refused}
 use Rattle.site.specs.Codes.{conceptDeclared, roleDeclared, ruleOf}
 use Rattle.site.specs.Items.{countAt, codeAt}
-use Rattle.site.specs.Limits.{mostNumber, mostConcepts, mostRoles, mostRules, lastKind}
+use Rattle.site.specs.Limits.{mostNumber, mostConcepts, mostRoles, mostRules, lastKind, functionalKind}
 use Rattle.site.specs.Told.{ruleTold}
 use Rattle.site.specs.declared.nodes.Declared.{Declared}
 use Rattle.site.specs.declared.rule.Rule.{Rule}
@@ -103,18 +103,18 @@ module _ (h : Head) (s : List ℕ) (at : ℕ) (n₁ : Num) (is₁ : told n₁ �
     rule-2 r u e k = rw (goes is₁ e₁, stops is₂ e k)
 
     module _ (x q : ℕ) (e₂ : n₂ ≡ Value x q) where
-      pub rule-functional : kind ≡ lastKind → (rule : Rule) → ruleTold rule ≡ ruleOf kind x 0 → ruleReadTold (RuleIs rule q) ≡ ruleAt h s at
+      pub rule-functional : kind ≡ functionalKind → (rule : Rule) → ruleTold rule ≡ ruleOf kind x 0 → ruleReadTold (RuleIs rule q) ≡ ruleAt h s at
       unfolding ruleAt
-      rule-functional k rule e = rw (goes is₁ e₁, goes is₂ e₂, eq-eqb kind lastKind k, e)
+      rule-functional k rule e = rw (goes is₁ e₁, goes is₂ e₂, eq-eqb kind functionalKind k, e)
 
-      module _ (two : kind ≡ lastKind → ⊥) (n₃ : Num) (is₃ : told n₃ ≡ codeAt s q (codeDeclared h kind) 0) where
+      module _ (two : kind ≡ functionalKind → ⊥) (n₃ : Num) (is₃ : told n₃ ≡ codeAt s q (codeDeclared h kind) 0) where
         pub rule-3 : (r u : Refusal) → n₃ ≡ Refused r → u ≡ refusalIn n₃ → ruleReadTold (RuleRefused u) ≡ ruleAt h s at
         unfolding ruleAt
-        rule-3 r u e k = rw (goes is₁ e₁, goes is₂ e₂, ne-eqb kind lastKind two, stops is₃ e k)
+        rule-3 r u e k = rw (goes is₁ e₁, goes is₂ e₂, ne-eqb kind functionalKind two, stops is₃ e k)
 
         pub rule-read : (y next : ℕ) → n₃ ≡ Value y next → (rule : Rule) → ruleTold rule ≡ ruleOf kind x y → ruleReadTold (RuleIs rule next) ≡ ruleAt h s at
         unfolding ruleAt
-        rule-read y next e₃ rule e = rw (goes is₁ e₁, goes is₂ e₂, ne-eqb kind lastKind two, goes is₃ e₃, e)
+        rule-read y next e₃ rule e = rw (goes is₁ e₁, goes is₂ e₂, ne-eqb kind functionalKind two, goes is₃ e₃, e)
 
 pub ruleset reading =
     (rule-no-refusal, of-concepts, of-roles, kind-refused, kind-known, kind-unknown, rule-code-known, rule-code-unknown, rule-code-refused, head-1, head-2, head-3, head-read, rule-1, rule-2, rule-functional, rule-3, rule-read, needs)

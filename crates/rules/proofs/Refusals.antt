@@ -14,7 +14,7 @@ use Rattle.number.proofs.Answers.{went, Given, given-gives, given-test, given-t
 use Rattle.number.proofs.Refusing.{Refuses, refuses-gives, refuses-so, refuses-test, refuses-then}
 use Rattle.site.specs.Kinds.{Rule}
 use Rattle.site.specs.Items.{countAt, codeAt, endAt}
-use Rattle.site.specs.Limits.{mostConcepts, mostRoles, mostRules, lastKind}
+use Rattle.site.specs.Limits.{mostConcepts, mostRoles, mostRules, lastKind, functionalKind}
 use Rattle.site.proofs.InFile.{InFile, at-a-byte, count-placed, code-placed, end-placed, after-count, after-code, code-starts}
 use Rattle.rules.specs.RuleFile.{headOf, codeDeclared, ruleAt, rulesFrom, rulesIn, broken, unbroken, afterRules, checkRules}
 use Rattle.rules.specs.declared.head.Head.{Head}
@@ -62,7 +62,7 @@ module _ (s : List ℕ) where
         refuses-then _ (codeAt s (kind .next) (codeDeclared h (kind .value)) 0) _
         (code-placed 0 7 s seven (codeDeclared h (kind .value)) (kind .next) (after-code 0 s (λ k. leb k lastKind) at kind e))
         (λ x f.
-        refuses-test _ (eqb (kind .value) lastKind) _ _ (refuses-gives _ _)
+        refuses-test _ (eqb (kind .value) functionalKind) _ _ (refuses-gives _ _)
         (refuses-then _ (codeAt s (x .next) (codeDeclared h (kind .value)) 0) _
         (code-placed 0 7 s seven (codeDeclared h (kind .value)) (x .next) (after-code 0 s (codeDeclared h (kind .value)) (kind .next) x f))
         (λ y g. refuses-gives _ _))))
@@ -74,7 +74,7 @@ module _ (s : List ℕ) where
         (λ kind e.
         given-then _ (codeAt s (kind .next) (codeDeclared h (kind .value)) 0) _
         (λ x f.
-        given-test _ (eqb (kind .value) lastKind) _ _ (given-gives _ _ (after-code 0 s (codeDeclared h (kind .value)) (kind .next) x f))
+        given-test _ (eqb (kind .value) functionalKind) _ _ (given-gives _ _ (after-code 0 s (codeDeclared h (kind .value)) (kind .next) x f))
         (given-then _ (codeAt s (x .next) (codeDeclared h (kind .value)) 0) _
         (λ y g. given-gives _ _ (after-code 0 s (codeDeclared h (kind .value)) (x .next) y g)))))
 

@@ -8,7 +8,7 @@ use Rattle.number.specs.Answer.Answer.{gives, refuses}
 use Rattle.site.specs.Kinds.{Rule, Site, roleIn}
 use Rattle.site.specs.Kinds.Rule.{included, disjoint, roleIncluded, roleDisjoint, functional}
 use Rattle.site.specs.Codes.{conceptDeclared, roleDeclared, ruleOf}
-use Rattle.site.specs.Limits.{mostConcepts, mostRoles, mostRules, lastKind}
+use Rattle.site.specs.Limits.{mostConcepts, mostRoles, mostRules, lastKind, functionalKind}
 use Rattle.site.specs.Lists.{any}
 use Rattle.site.specs.Items.{countAt, codeAt, endAt, onward}
 use Rattle.rules.specs.declared.head.Head.{Head}
@@ -30,7 +30,7 @@ unfoldable pub ruleAt : Head → List ℕ → ℕ → Answer (Read Rule)
 ruleAt h s at =
     codeAt s at (λ kind. leb kind lastKind) 0 then λ kind.
     codeAt s (kind .next) (codeDeclared h (kind .value)) 0 then λ x.
-    cond (eqb (kind .value) lastKind)
+    cond (eqb (kind .value) functionalKind)
     (gives (record { value = ruleOf (kind .value) (x .value) 0; next = x .next }))
     (codeAt s (x .next) (codeDeclared h (kind .value)) 0 then λ y.
     gives (record { value = ruleOf (kind .value) (x .value) (y .value); next = y .next }))

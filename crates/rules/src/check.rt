@@ -16,6 +16,11 @@ use site::Role;
 use site::Rule;
 use site::read_end;
 
+// The place after the last role, in a row with an entry for each role.
+const NO_ROLE: usize = Role::COUNT as usize;
+// The entries of such a row: one for each role, and one of no role.
+const RIGHTS: usize = NO_ROLE + 1;
+
 // What reading a rule file finds: its head, or the refusal.
 pub enum RulesRead {
     Accepted(Head),
@@ -44,11 +49,11 @@ fn right_role(rule: Rule) -> usize
     ensures { λ r. ⌜ r ≡ rightRole (ruleTold rule) ⌝ }
 {
     match rule {
-        Rule::Included(_, _) => 32,
-        Rule::Disjoint(_, _) => 32,
+        Rule::Included(_, _) => NO_ROLE,
+        Rule::Disjoint(_, _) => NO_ROLE,
         Rule::RoleIncluded(_, q) => least(q.role().number),
-        Rule::RoleDisjoint(_, _) => 32,
-        Rule::Functional(_) => 32,
+        Rule::RoleDisjoint(_, _) => NO_ROLE,
+        Rule::Functional(_) => NO_ROLE,
     }
 }
 
@@ -59,15 +64,15 @@ fn least(role: u32) -> usize
     if role < Role::COUNT {
         role as usize
     } else {
-        32
+        NO_ROLE
     }
 }
 
-// For each role, whether it stands on the right of a kind 2 rule; the last entry is of no role.
-fn right_roles(s: &[u8], head: Head) -> [bool; 33]
+// For each role, whether it stands on the right of a kind 2 rule.
+fn right_roles(s: &[u8], head: Head) -> [bool; RIGHTS]
     ensures { λ r. ⌜ Rights (rulesIn head (now (s .entry)) (head .rules) (head .start)) r ⌝ }
 {
-    let mut right = [false; 33];
+    let mut right = [false; RIGHTS];
     let mut at = head.start;
     let mut left = head.rules;
     while 0 < left {
@@ -84,7 +89,7 @@ fn right_roles(s: &[u8], head: Head) -> [bool; 33]
 }
 
 // Is it a functional rule whose role stands on the right?
-fn is_broken(right: [bool; 33], rule: Rule) -> bool
+fn is_broken(right: [bool; RIGHTS], rule: Rule) -> bool
     ensures { λ r. ⌜ r ≡ brokenBy right (ruleTold rule) ⌝ }
 {
     match rule {
@@ -96,7 +101,7 @@ fn is_broken(right: [bool; 33], rule: Rule) -> bool
     }
 }
 
-fn has_right(right: [bool; 33], role: u32) -> bool
+fn has_right(right: [bool; RIGHTS], role: u32) -> bool
     ensures { λ r. ⌜ r ≡ rightAt right role ⌝ }
 {
     if role < Role::COUNT {
@@ -107,7 +112,7 @@ fn has_right(right: [bool; 33], role: u32) -> bool
 }
 
 // "the kind of the first functional rule so broken"
-fn check_functional(s: &[u8], head: Head, right: [bool; 33]) -> End
+fn check_functional(s: &[u8], head: Head, right: [bool; RIGHTS]) -> End
     requires { ⌜ Rights (rulesIn head (now s) (head .rules) (head .start)) right ⌝ }
     requires { ⌜ head .roles ≤ mostRoles ⌝ }
     ensures { λ r. ⌜ endTold r ≡ unbroken head (now (s .entry)) (rulesIn head (now (s .entry)) (head .rules) (head .start)) (head .rules) (head .start) ⌝ }

@@ -24,11 +24,7 @@ impl RuleRead {
         ensures { λ r. ⌜ r ≡ ruleReadRefusal self ⌝ }
     {
         match self {
-            RuleRead::Read(_, _) => Refusal {
-                number: 0,
-                side: 0,
-                place: 0,
-            },
+            RuleRead::Read(_, _) => Refusal::NONE,
             RuleRead::Refused(r) => r,
         }
     }
@@ -84,7 +80,7 @@ pub fn rule_at(s: &[u8], head: Head, at: usize) -> RuleRead
     let Num::Value(x, q) = second else {
         return RuleRead::Refused(second.refusal());
     };
-    if kind == Rule::LAST_KIND {
+    if kind == Rule::FUNCTIONAL {
         return RuleRead::Read(Rule::new(kind, x, 0), q);
     }
     let third = read_code(s, head, kind, q);

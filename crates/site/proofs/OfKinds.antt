@@ -13,6 +13,7 @@ use Rattle.site.specs.Kinds.Node.{concept}
 use Rattle.site.specs.Codes.{roleOf, conceptOf, roleDeclared, conceptDeclared, predicateDeclared, ruleOf}
 use Rattle.site.specs.Told.{ruleTold}
 use Rattle.site.specs.declared.fact.Fact.{Fact}
+use Rattle.site.specs.declared.nodes.Role.{Role}
 use Rattle.site.specs.declared.nodes.BasicRole.{BasicRole as RoleCode}
 use Rattle.site.specs.declared.nodes.BasicConcept.{BasicConcept as ConceptCode}
 use Rattle.site.specs.declared.rule.Rule.the-variants.{Included, Disjoint, RoleIncluded, RoleDisjoint, Functional}
@@ -77,6 +78,12 @@ module _ (s : Site) where
       either true = refl
       either false = role-declared (b - 64)
 
+-- the role of a fact: none below 64 is left out, since a concept's fact has none
+pub no-role : (f : Fact) (r : Role) → r ≡ record { number = 0 } → f .predicate < 64 → r ≡ record { number = f .predicate - 64 }
+no-role f r is low =
+    let e : f .predicate - 64 ≡ 0 = omega arith in
+    rw (is, e)
+
 -- the order of facts
 not-below : (n : ℕ) → ltb n n ≡ false
 not-below n = le-ltb n n (omega arith)
@@ -115,4 +122,4 @@ module _ (kind x y : ℕ) where
         let e : kind ≡ suc (suc (suc (suc (kind - 4)))) = omega arith in
         rw (is-p, e)
 
-pub ruleset kinds = (inverse-even, inverse-odd, concept-low, concept-high, predicate-low, predicate-high, by-predicate, by-subject, by-object, kind-0, kind-1, kind-2, kind-3, kind-4, needs)
+pub ruleset kinds = (inverse-even, inverse-odd, no-role, concept-low, concept-high, predicate-low, predicate-high, by-predicate, by-subject, by-object, kind-0, kind-1, kind-2, kind-3, kind-4, needs)

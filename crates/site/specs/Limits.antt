@@ -17,6 +17,10 @@ mostRules = 512
 abbrev pub lastKind : ℕ
 lastKind = 4
 
+-- "| 4 | q is functional | one basic role |"
+abbrev pub functionalKind : ℕ
+functionalKind = 4
+
 -- "number of facts (0 to 4,096)"
 abbrev pub mostFacts : ℕ
 mostFacts = 4096

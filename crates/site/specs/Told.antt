@@ -1,5 +1,6 @@
 -- What each case of the code's answers and kinds says.
-use Prim.Native.Nat.{ℕ}
+use Prim.Native.Nat.{ℕ, _<_}
+use mathlib.Core.Path.{_≡_}
 use Rattle.number.specs.Answer.{Answer, refusal}
 use Rattle.number.specs.Answer.Answer.{gives, refuses}
 use Rattle.number.specs.declared.refusal.Refusal.{Refusal}
@@ -28,3 +29,8 @@ endTold (Refused r) = refuses r
 abbrev pub endRefusal : End → Refusal
 endRefusal (At at) = refusal 0 0 0
 endRefusal (Refused r) = r
+
+-- a basic role's code, small enough that more may be added to it
+pub record Code (code r : ℕ) : Type 0 where
+  pub is : r ≡ code
+  pub small : r < 8589934592

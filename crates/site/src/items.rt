@@ -37,11 +37,7 @@ impl End {
         ensures { λ r. ⌜ r ≡ endRefusal self ⌝ }
     {
         match self {
-            End::At(_) => Refusal {
-                number: 0,
-                side: 0,
-                place: 0,
-            },
+            End::At(_) => Refusal::NONE,
             End::Refused(r) => r,
         }
     }

@@ -16,4 +16,5 @@ pub use nodes::BasicRole;
 pub use nodes::Concept;
 pub use nodes::Declared;
 pub use nodes::Role;
+pub use nodes::wide;
 pub use rule::Rule;

@@ -1,8 +1,19 @@
 // Concepts and roles, basic concepts and basic roles, and what a rule file declares of them.
 ghost use mathlib.Core.Path.{_≡_};
-ghost use Prim.Native.Nat.{_+_, _-_, _*_, _/_, _%_};
+ghost use Prim.Native.Nat.{_/_, _<_};
 ghost use Rattle.site.specs.Kinds.{turned};
-ghost use Rattle.site.specs.Codes.{roleOf, roleDeclared, conceptDeclared, predicateDeclared};
+ghost use Rattle.site.specs.Kinds.BasicRole.{forward, inverse};
+ghost use Rattle.site.specs.Kinds.BasicConcept.{named, some};
+ghost use Rattle.site.specs.Kinds.Node.{concept, role};
+ghost use Rattle.site.specs.Codes.{roleOf, roleCode, conceptOf, nodeCode, roleDeclared, conceptDeclared, predicateDeclared};
+ghost use Rattle.site.specs.Told.{Code};
+
+// A number as a wider one.
+pub fn wide(x: u32) -> usize
+    ensures { λ r. ⌜ (r ≡ x) × (r < 4294967296) ⌝ }
+{
+    x as usize
+}
 
 pub struct Concept {
     pub number: u32,
@@ -18,11 +29,11 @@ impl Concept {
         Self { number }
     }
 
-    // The basic concept that it is.
-    pub fn basic(self) -> BasicConcept
-        ensures { λ r. ⌜ r .code ≡ self .number ⌝ }
+    // Its number among the nodes.
+    pub fn node(self) -> usize
+        ensures { λ r. ⌜ r ≡ nodeCode (concept (named (self .number))) ⌝ }
     {
-        BasicConcept { code: self.number }
+        wide(self.number)
     }
 }
 
@@ -40,12 +51,46 @@ impl Role {
         Self { number }
     }
 
-    // The role read forwards, a basic role.
-    pub fn forward(self) -> BasicRole
-        ensures { λ r. ⌜ r .code ≡ 2 * (self .number % 32) ⌝ }
+    // "2j for role j"
+    pub fn forward(self) -> usize
+        ensures { λ r. ⌜ Code (roleCode (forward (self .number))) r ⌝ }
     {
-        let number = self.number % Role::COUNT;
-        BasicRole { code: 2 * number }
+        2 * wide(self.number)
+    }
+
+    // "2j+1 for its inverse"
+    pub fn inverse(self) -> usize
+        ensures { λ r. ⌜ Code (roleCode (inverse (self .number))) r ⌝ }
+    {
+        2 * wide(self.number) + 1
+    }
+
+    // The number among the nodes of "has some partner by it".
+    pub fn some_forward(self) -> usize
+        ensures { λ r. ⌜ r ≡ nodeCode (concept (some (forward (self .number)))) ⌝ }
+    {
+        wide(Concept::COUNT) + self.forward()
+    }
+
+    // That of "has some partner by its inverse".
+    pub fn some_inverse(self) -> usize
+        ensures { λ r. ⌜ r ≡ nodeCode (concept (some (inverse (self .number)))) ⌝ }
+    {
+        wide(Concept::COUNT) + self.inverse()
+    }
+
+    // That of the role itself.
+    pub fn forward_node(self) -> usize
+        ensures { λ r. ⌜ r ≡ nodeCode (role (forward (self .number))) ⌝ }
+    {
+        wide(BasicConcept::COUNT) + self.forward()
+    }
+
+    // That of its inverse.
+    pub fn inverse_node(self) -> usize
+        ensures { λ r. ⌜ r ≡ nodeCode (role (inverse (self .number))) ⌝ }
+    {
+        wide(BasicConcept::COUNT) + self.inverse()
     }
 }
 
@@ -76,29 +121,23 @@ impl BasicRole {
 
     // The role of which it is the one or the other direction.
     pub fn role(self) -> Role
-        ensures { λ r. ⌜ r .number ≡ self .code / 2 ⌝ }
+        ensures { λ r. ⌜ r ≡ record { number = self .code / 2 } ⌝ }
     {
-        Role {
-            number: self.code / 2,
-        }
+        Role::new(self.code / 2)
     }
 
-    // "64+q for 'has some partner by q'"
-    pub fn some(self) -> BasicConcept
-        ensures { λ r. ⌜ r .code ≡ 64 + self .code % 64 ⌝ }
+    // The number among the nodes of "64+q for 'has some partner by q'".
+    pub fn some_node(self) -> usize
+        ensures { λ r. ⌜ r ≡ nodeCode (concept (some (roleOf (self .code)))) ⌝ }
     {
-        let code = self.code % BasicRole::COUNT;
-        BasicConcept {
-            code: Concept::COUNT + code,
-        }
+        wide(Concept::COUNT) + wide(self.code)
     }
 
-    // Its number among all nodes.
-    pub fn node(self) -> u32
-        ensures { λ r. ⌜ r ≡ 128 + self .code % 64 ⌝ }
+    // Its own number among the nodes.
+    pub fn node(self) -> usize
+        ensures { λ r. ⌜ r ≡ nodeCode (role (roleOf (self .code))) ⌝ }
     {
-        let code = self.code % BasicRole::COUNT;
-        BasicConcept::COUNT + code
+        wide(BasicConcept::COUNT) + wide(self.code)
     }
 }
 
@@ -114,6 +153,13 @@ impl BasicConcept {
         ensures { λ r. ⌜ r ≡ record { code = code } ⌝ }
     {
         Self { code }
+    }
+
+    // Its number among the nodes.
+    pub fn node(self) -> usize
+        ensures { λ r. ⌜ r ≡ nodeCode (concept (conceptOf (self .code))) ⌝ }
+    {
+        wide(self.code)
     }
 }
 

@@ -20,6 +20,8 @@ impl Rule {
     pub const LAST_KIND: u32 = 4;
     // The last kind whose codes are basic concepts.
     pub const LAST_OF_CONCEPTS: u32 = 1;
+    // The kind that has one code.
+    pub const FUNCTIONAL: u32 = 4;
 
     // The rule of a kind and its codes; a functional rule has one.
     pub fn new(kind: u32, x: u32, y: u32) -> Rule

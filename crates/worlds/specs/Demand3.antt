@@ -20,7 +20,7 @@ use Rattle.clean.specs.Marks.{mark, partner, kept, support}
 use Rattle.worlds.specs.Worlds.{Is, Joins, Consistent, LeftOut, LowestConflict, Always}
 
 -- the statement for a site's rules and facts
-pub record WorldsDecide (h : Head) (s : Site) (facts : List Fact) : Type 1 where
+pub record SiteDecided (h : Head) (s : Site) (facts : List Fact) : Type 1 where
   -- "dropped = left out by some maximal consistent set"
   pub dropped : (f : Fact) → List·Memᴰ f facts → (mark itself (followsOf s) facts f ≡ 0 → ⊥) ↔ LeftOut itself s facts f
   -- "Alone": no world by itself
@@ -44,4 +44,4 @@ Demand3 =
     (rules bundle : List ℕ) (h : Head) (facts : List Fact)
     → checkRules rules ≡ gives h
     → readBundle h bundle ≡ gives facts
-    → WorldsDecide h (siteOf rules h) facts
+    → SiteDecided h (siteOf rules h) facts

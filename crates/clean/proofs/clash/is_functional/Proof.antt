@@ -8,4 +8,5 @@ is-functional-spec =
     (tie.spec
     (λ c. search clashing)
     (λ c. search clashing)
+    (λ c. search clashing)
     (λ c. search clashing))

@@ -7,5 +7,5 @@ role-type-spec =
     tie.close
     (tie.spec
     (λ c κs. search typed)
-    (λ c. search typed)
+    (λ c κs. search typed)
     (λ c. search typed))

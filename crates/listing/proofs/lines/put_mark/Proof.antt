@@ -8,7 +8,9 @@ put-mark-spec =
     tie.close
     (tie.spec
     (λ c. search lines)
+    (λ c. search lines)
     (λ c κs. search lines)
+    (λ c. search lines)
     (λ c. search lines)
     (λ c. search lines)
     (λ c. search lines)

@@ -12,13 +12,24 @@ pub const F: &str = "06 00 07 01 07 01 09 40 09 07 40 09 AC 02 40 0C 0C";
 /// A bundle that is refused with 8 at 3.
 const NOT_ASCENDING: &str = "02 00 07 00 07";
 
+/// R with its rules in other orders; then each of them twice, all of them twice, and some again at the end.
+const RULES_OF_R: [&str; 6] = [
+    "02 01 05 03 00 01 04 00 00 41 00 00 01 40 01 00 01",
+    "02 01 05 04 00 01 00 01 03 00 01 00 41 00 00 01 40",
+    "02 01 05 00 41 00 03 00 01 00 01 40 01 00 01 04 00",
+    "02 01 0A 01 00 01 01 00 01 00 01 40 00 01 40 00 41 00 00 41 00 04 00 04 00 03 00 01 03 00 01",
+    "02 01 0A 01 00 01 00 01 40 00 41 00 04 00 03 00 01 01 00 01 00 01 40 00 41 00 04 00 03 00 01",
+    "02 01 08 04 00 03 00 01 00 01 40 01 00 01 00 41 00 01 00 01 04 00 00 01 40",
+];
+
 /// Rule files, each with its refusal's number and place.
-const REFUSED_RULES: [(&str, u32, u64); 15] = [
+const REFUSED_RULES: [(&str, u32, u64); 16] = [
     ("", 1, 0),
     ("00 01 02 04 00 02 01 01", 6, 3),
     ("00 01 02 02 01 01 04 00", 6, 6),
     ("00 01 02 04 00 02 01 01 00", 7, 8),
     ("00 01 03 04 00 02 00 00 04 01", 6, 3),
+    ("00 02 04 04 02 04 00 02 03 01 04 01", 6, 5),
     ("41 00 00", 4, 0),
     ("00 21 00", 4, 1),
     ("00 00 81 04", 4, 2),
@@ -71,6 +82,8 @@ pub fn run(cleaner: &dyn Cleaner, answers: &mut u64) -> Told {
     held.worked_kept()?;
     held.careful_errors()?;
     held.refusals()?;
+    held.rules_again()?;
+    held.functional_rules()?;
     held.order_of_arguments()?;
     rows::run(&mut held)
 }
@@ -124,10 +137,14 @@ impl Held<'_> {
         Ok(())
     }
 
-    fn worked_marks(&mut self) -> Told {
+    /// The marks of F, under R or rules that say the same.
+    fn marks_of_f(&mut self, rules: &str) -> Told {
         let counts = Counts { refused: Refusal::default(), facts: 6, kept: 1, alone: 1, disputed: 4 };
-        let partners = [1, 0, 65_535, 1, 3, 65_535];
-        self.marks(R, F, counts, &[2, 2, 0, 2, 2, 1], &partners)?;
+        self.marks(rules, F, counts, &[2, 2, 0, 2, 2, 1], &[1, 0, 65_535, 1, 3, 65_535])
+    }
+
+    fn worked_marks(&mut self) -> Told {
+        self.marks_of_f(R)?;
         self.hold("rules of R", self.cleaner.check_rules(&bytes(R)), Length { length: 5, ..Length::default() })?;
         let facts = self.cleaner.check_bundle(&bytes(R), &bytes(F));
         self.hold("facts of F", facts, Length { length: 6, ..Length::default() })
@@ -202,6 +219,38 @@ impl Held<'_> {
             self.hold(hex, got, refused_length(number, BUNDLE_SIDE, place))?;
         }
         self.hold("no facts", self.cleaner.check_bundle(&bytes(R), &bytes("00")), Length::default())
+    }
+
+    /// "Rules may repeat and come in any order": the same marks, partners, counts, answers and kept bundle.
+    fn rules_again(&mut self) -> Told {
+        for hex in RULES_OF_R {
+            self.marks_of_f(hex)?;
+            let (rules, bundle) = (bytes(hex), bytes(F));
+            self.hold(hex, self.cleaner.has(&rules, &bundle, 64, 9), yes(2))?;
+            let mut out = vec![0xEE; 4];
+            let got = self.cleaner.write_kept(&rules, &bundle, &mut out);
+            self.hold(hex, got, Length { length: 3, ..Length::default() })?;
+            self.hold(hex, out, bytes("01 01 09 EE"))?;
+        }
+        Ok(())
+    }
+
+    /// One of two roles is functional by q, and one basic role is included in another, after it and before it: refused if
+    /// the one on the right is q or its inverse, whatever is on the left; but a byte after the rules is refused first.
+    fn functional_rules(&mut self) -> Told {
+        for (q, left, right) in (0..32).map(|case| (case % 2, case / 2 % 4, case / 8)) {
+            let after = format!("00 02 02 04 0{q} 02 0{left} 0{right}");
+            let before = format!("00 02 02 02 0{left} 0{right} 04 0{q}");
+            for (hex, place) in [(after, 3), (before, 6)] {
+                let broken = refused_length(6, RULES_SIDE, place);
+                let due = if right < 2 { broken } else { Length { length: 2, ..Length::default() } };
+                self.hold(&hex, self.cleaner.check_rules(&bytes(&hex)), due)?;
+                self.hold(&hex, self.cleaner.count(&bytes(&hex), &bytes("00")).refused, due.refused)?;
+                let longer = bytes(&format!("{hex} 00"));
+                self.hold(&hex, self.cleaner.check_rules(&longer), refused_length(7, RULES_SIDE, 8))?;
+            }
+        }
+        Ok(())
     }
 
     /// Arguments after both files, the code before the things, room last.

@@ -1,0 +1,10 @@
+use Rattle.site.proofs.OfCodes.{codes}
+use Rattle.site.proofs.nodes.BasicConcept.node.Statement.{statement}
+use Rattle.site.proofs.nodes.BasicConcept.node.Tie as tie
+
+pub node-spec : {M : Type 1} → statement M
+node-spec =
+    tie.close
+    (tie.spec
+    (λ c κs. search codes)
+    (λ c. search codes))
