@@ -5,3 +5,5 @@ pub mod OfKeeping
 pub mod OfRows
 pub mod OfSearch
 pub mod OfWalks
+pub mod WrongAnswers
+pub mod SameRules
