@@ -1,9 +1,6 @@
-pub mod Cases
 pub mod OfAsking
 pub mod OfJudging
 pub mod OfKeeping
 pub mod OfRows
 pub mod OfSearch
 pub mod OfWalks
-pub mod WrongAnswers
-pub mod SameRules

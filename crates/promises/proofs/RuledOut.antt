@@ -7,7 +7,7 @@ use mathlib.Core.List.{List, [], _∷_}
 use lib.ListN.{length, getD}
 use Rattle.number.specs.Answer.{over, laid}
 use Rattle.number.proofs.One.{Same}
-use Rattle.clean.proofs.Cases.{R, F}
+use Rattle.cases.proofs.Cases.{R, F}
 use Rattle.dzyunagor.specs.Promises.{Mark, Count, Ask, Has, Joins, WriteKept}
 use Rattle.dzyunagor.specs.Shown.{notRefused, shownCounts, shownAsked, shownAnswer, shownLength}
 use Rattle.dzyunagor.specs.declared.shapes.DzyCounts.{DzyCounts}

@@ -23,7 +23,7 @@ use Rattle.clashes.specs.Marks.{jar, split, meet, alone, contradict, clash, mar
 use Rattle.clean.specs.Operations.{given, roomForMarks, marking, counting, asking, replyOf, having, joining, keeping}
 use Rattle.clean.specs.Operations.Reply.{yes-by, none}
 use Rattle.clashes.specs.declared.answers.Counts.{Counts}
-use Rattle.clean.proofs.Cases.{R, F}
+use Rattle.cases.proofs.Cases.{R, F}
 use Rattle.bundle.specs.Opened.{opening}
 use Rattle.records.specs.Reading.{readerStart, readerStep}
 use Rattle.records.specs.Reading.Found.{fact, done}

@@ -24,7 +24,7 @@ use Rattle.bundle.specs.Bundle.{factAt, factsFrom, factsIn, checkBundle, readBu
 use Rattle.steps.specs.Tables.{rolesOf, nodesOf, arrow, mates, find, rowsOf, looked, through, closure, apart, empty, excludes, functionalIn, excludedRows, followsFrom, followsOf}
 use Rattle.clashes.specs.Types.{itself, typesOf}
 use Rattle.clashes.specs.Marks.{jar, split, meet, alone, contradict, clash, mark, marked, kept}
-use Rattle.clean.proofs.Cases.{R, F}
+use Rattle.cases.proofs.Cases.{R, F}
 use Rattle.worlds.specs.Worlds.{World, Obeys, Holds, WorldOf}
 
 -- a number within the limit for each thing, different things different numbers

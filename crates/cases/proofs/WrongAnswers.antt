@@ -23,18 +23,18 @@ use Rattle.site.specs.Lists.{upTo, any, count, first, each}
 use Rattle.site.specs.Items.{countAt, codeAt, endAt}
 use Rattle.rules.specs.RuleFile.{headOf, codeDeclared, ruleAt, rulesFrom, rulesIn, unbroken, afterRules, checkRules, siteOf}
 use Rattle.bundle.specs.Bundle.{factAt, factsFrom, factsIn, checkBundle, readBundle}
-use Rattle.follows.specs.Steps.{Included, Excluded}
-use Rattle.follows.specs.Steps.SaysIncluded.{kind-0, kind-2}
-use Rattle.follows.specs.Steps.SaysExcluded.{kind-1, kind-3}
-use Rattle.follows.specs.Steps.Included.{by-rule as included-by-rule, step-1, step-2, step-3, step-4}
-use Rattle.follows.specs.Steps.OneOf.{has, has-inverse}
-use Rattle.follows.specs.Steps.Excluded.{by-rule as excluded-by-rule, step-5, step-6, step-7, step-8}
-use Rattle.follows.specs.Tables.{rolesOf, nodesOf, arrow, mates, find, rowsOf, looked, through, closure, apart, empty, excludes, functionalIn, excludedRows, followsFrom, followsOf}
-use Rattle.clean.specs.Types.{typ, itself, typesOf}
-use Rattle.clean.specs.Marks.{jar, split, meet, alone, contradict, clash, mark, partner, marks, partners, marked, counts, supports, support}
+use Rattle.steps.specs.Steps.{Included, Excluded}
+use Rattle.steps.specs.Steps.SaysIncluded.{kind-0, kind-2}
+use Rattle.steps.specs.Steps.SaysExcluded.{kind-1, kind-3}
+use Rattle.steps.specs.Steps.Included.{by-rule as included-by-rule, step-1, step-2, step-3, step-4}
+use Rattle.steps.specs.Steps.OneOf.{has, has-inverse}
+use Rattle.steps.specs.Steps.Excluded.{by-rule as excluded-by-rule, step-5, step-6, step-7, step-8}
+use Rattle.steps.specs.Tables.{rolesOf, nodesOf, arrow, mates, find, rowsOf, looked, through, closure, apart, empty, excludes, functionalIn, excludedRows, followsFrom, followsOf}
+use Rattle.clashes.specs.Types.{typ, itself, typesOf}
+use Rattle.clashes.specs.Marks.{jar, split, meet, alone, contradict, clash, mark, partner, marks, partners, marked, counts, supports, support}
 use Rattle.clean.specs.Operations.{given, roomForMarks, marking, asking, replyOf, having, joining, Reply}
 use Rattle.clean.specs.Operations.Reply.{yes-by, none}
-use Rattle.clean.specs.declared.answers.Judged.{Judged}
+use Rattle.clashes.specs.declared.answers.Judged.{Judged}
 
 -- what is one of two things is not the other, if a number tells them apart
 ruled-out : {A : Type 0} (f : A → ℕ) {x right wrong : A} → x ≡ right → eqb (f right) (f wrong) ≡ false → x ≡ wrong → ⊥

@@ -18,12 +18,12 @@ use Rattle.rules.specs.Lawful.{Lawful}
 use Rattle.rules.specs.RuleFile.{checkRules, siteOf}
 use Rattle.rules.proofs.AcceptedFile.{accepted-lawful}
 use Rattle.bundle.specs.Bundle.{checkBundle, readBundle}
-use Rattle.follows.specs.Steps.{Included, Excluded}
-use Rattle.follows.specs.Steps.Included.{by-rule as included-by-rule, step-1, step-2, step-3, step-4}
-use Rattle.follows.specs.Steps.Excluded.{by-rule as excluded-by-rule, step-5, step-6, step-7, step-8}
-use Rattle.follows.specs.Tables.{Follows, followsOf}
-use Rattle.follows.proofs.Decided.{decides}
+use Rattle.steps.specs.Steps.{Included, Excluded}
+use Rattle.steps.specs.Steps.Included.{by-rule as included-by-rule, step-1, step-2, step-3, step-4}
+use Rattle.steps.specs.Steps.Excluded.{by-rule as excluded-by-rule, step-5, step-6, step-7, step-8}
+use Rattle.steps.specs.Tables.{Follows, followsOf}
+use Rattle.steps.proofs.Decided.{decides}
 use Rattle.clean.specs.Operations.{given, marking, counting, asking, having, joining, keeping}
 
 -- as much is declared, and each rule of one is a rule of the other
 pub record SameRules (s t : Site) : Type 0 where
