@@ -14,10 +14,9 @@ use Rattle.number.specs.Answer.Answer.{gives, refuses}
 use Rattle.number.proofs.Answers.{given-once as same-given, went, passed}
 use Rattle.site.specs.declared.fact.Fact.{Fact}
 use Rattle.site.specs.Items.{onward}
-use Rattle.rules.specs.RuleFile.{checkRules}
 use Rattle.rules.specs.declared.head.Head.{Head}
-use Rattle.bundle.specs.Bundle.{factAt, checkBundle, factsIn, factsOf}
-use Rattle.bundle.specs.Opened.{opening}
+use Rattle.bundle.specs.Bundle.{factAt, factsIn, factsOf}
+use Rattle.bundle.specs.Opened.{opening, Accepted}
 use Rattle.bundle.specs.declared.facts.Facts.{Facts}
 use Rattle.bundle.proofs.Accepted.{accepted-count}
 use Rattle.bundle.proofs.OfOpened.{opening-accepted}
@@ -59,8 +58,7 @@ no-slot s at left i row whole none same = rw none at same
 -- what is handed out fits the row, and its facts are as many as the count
 pub record HandedOut (rules bundle : List ℕ) (room : ℕ) (b : Facts) : Type 0 where
   pub head : Head
-  pub rules-read : checkRules rules ≡ gives head
-  pub bundle-read : checkBundle head bundle ≡ gives b
+  pub accepted : Accepted rules bundle head b
   pub fits : b .count ≤ room
   pub all : length (factsOf bundle b) ≡ b .count
 
@@ -70,15 +68,13 @@ handed-out rules bundle room b e =
     let w = went (opening rules bundle) (λ i. cond (leb (i .facts .count) room) (gives (i .facts)) (refuses (refusal 9 2 0))) e in
     let t = passed (leb (w .value .facts .count) room) (gives (w .value .facts)) (refusal 9 2 0) (w .rest) in
     let same : w .value .facts ≡ b = same-given (t .answer) in
-    let acc = opening-accepted rules bundle (w .value) (w .first) in
-    let read : checkBundle (w .value .head) bundle ≡ gives b = acc .of-bundle ∙ ap gives same in
+    let acc : Accepted rules bundle (w .value .head) b = rw same at (opening-accepted rules bundle (w .value) (w .first)) in
     let fits : w .value .facts .count ≤ room = leb-true (w .value .facts .count) room (t .test) in
     record {
       head = w .value .head;
-      rules-read = acc .of-rules;
-      bundle-read = read;
+      accepted = acc;
       fits = rw same at fits;
-      all = accepted-count (w .value .head) bundle b read;
+      all = accepted-count (w .value .head) bundle b (acc .of-bundle);
     }
 
 module _ (rules bundle : List ℕ) (row : List Record) (hand : Hand) (is : hand ≡ decided (handOut rules bundle (length row))) where

@@ -114,9 +114,9 @@ out-and-back rules bundle room row bytes e room′ = by-answer (handOut rules bu
     by-answer (gives b) is e =
         let out = handed-out rules bundle room b is in
         let same : map factOf row ≡ factsOf bundle b = ap (map factOf) (sym (same-given e)) ∙ facts-back (factsOf bundle b) in
-        rw (out .rules-read, same)
-        (planned (out .head) (few-roles rules (out .head) (out .rules-read)) room′ (factsOf bundle b) (accepted-lawful (out .head) bundle b (out .bundle-read))
-        ∙ ap (roomFor room′) (accepted-again bundle bytes (out .head) b (out .bundle-read)))
+        rw (out .accepted .of-rules, same)
+        (planned (out .head) (few-roles rules (out .head) (out .accepted .of-rules)) room′ (factsOf bundle b) (accepted-lawful (out .head) bundle b (out .accepted .of-bundle))
+        ∙ ap (roomFor room′) (accepted-again bundle bytes (out .head) b (out .accepted .of-bundle)))
     by-answer (refuses r) is e = absurd (never e)
 
 -- the bundle of lawful facts, read again
