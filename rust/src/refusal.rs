@@ -19,30 +19,41 @@ pub struct Refusal {
     pub place: u64,
 }
 
-/// What is wrong, by number. More numbers may come with a new minor version.
-#[derive(Clone, Copy, Debug, PartialEq, Eq, Hash)]
-#[non_exhaustive]
-pub enum RefusalNumber {
-    /// The bytes end before a number that is due is complete.
-    Cut = 1,
-    /// A number of more than one byte, the last of them 0.
-    Long = 2,
-    /// A third byte with its top bit set, or a value over 65,535.
-    Over = 3,
-    /// A count over its limit.
-    TooMany = 4,
-    /// A rule kind over 4, a concept or role that is not declared, or a concept record whose object is not 0.
-    Unknown = 5,
-    /// A functional role on the right of a kind 2 rule.
-    Broken = 6,
-    /// Bytes after the last item.
-    After = 7,
-    /// A fact or record not above the one before it.
-    Order = 8,
-    /// A lent output too short.
-    Room = 9,
-    /// A fact number not below the count.
-    NoFact = 10,
+/// Each number once, with its name and its text.
+macro_rules! refusal_numbers {
+    ($($number:literal $name:ident $text:literal)*) => {
+        /// What is wrong, by number; it prints its text. More numbers may come with a new minor version.
+        #[derive(Clone, Copy, Debug, PartialEq, Eq, Hash)]
+        #[non_exhaustive]
+        pub enum RefusalNumber {
+            $(#[doc = $text] $name = $number,)*
+        }
+
+        impl RefusalNumber {
+            /// Every number, ascending.
+            pub const ALL: &'static [RefusalNumber] = &[$(RefusalNumber::$name),*];
+
+            /// What it means, in the header's words.
+            pub fn text(self) -> &'static str {
+                match self {
+                    $(RefusalNumber::$name => $text,)*
+                }
+            }
+        }
+    };
+}
+
+refusal_numbers! {
+    1 Cut "the bytes end before a number that is due is complete"
+    2 Long "a number of more than one byte, the last of them 0"
+    3 Over "a third byte with its top bit set, or a value over 65,535"
+    4 TooMany "a count over its limit"
+    5 Unknown "a rule kind over 4, a concept or role that is not declared, or a concept record whose object is not 0"
+    6 Broken "a functional role on the right of a kind 2 rule"
+    7 After "bytes after the last item"
+    8 Order "a fact or record not above the one before it"
+    9 Room "a lent output too short"
+    10 NoFact "a fact number not below the count"
 }
 
 /// Where a refusal's fault is. More sides may come with a new minor version.
@@ -57,36 +68,9 @@ pub enum Side {
     Call = 2,
 }
 
-/// Every number, with its text.
-const NUMBERS: [(RefusalNumber, &str); 10] = [
-    (RefusalNumber::Cut, "the bytes end before a number that is due is complete"),
-    (RefusalNumber::Long, "a number of more than one byte, the last of them 0"),
-    (RefusalNumber::Over, "a third byte with its top bit set, or a value over 65,535"),
-    (RefusalNumber::TooMany, "a count over its limit"),
-    (
-        RefusalNumber::Unknown,
-        "a rule kind over 4, a concept or role that is not declared, or a concept record whose object is not 0",
-    ),
-    (RefusalNumber::Broken, "a functional role on the right of a kind 2 rule"),
-    (RefusalNumber::After, "bytes after the last item"),
-    (RefusalNumber::Order, "a fact or record not above the one before it"),
-    (RefusalNumber::Room, "a lent output too short"),
-    (RefusalNumber::NoFact, "a fact number not below the count"),
-];
-
-/// Every side, with its word.
-const SIDES: [(Side, &str); 3] = [(Side::Rules, "rules"), (Side::Bundle, "bundle"), (Side::Call, "call")];
-
-impl RefusalNumber {
-    /// Every number, ascending.
-    pub fn all() -> impl Iterator<Item = RefusalNumber> {
-        NUMBERS.iter().map(|&(number, _)| number)
-    }
-
-    /// What it means, in the header's words.
-    pub fn text(self) -> &'static str {
-        NUMBERS.iter().find(|(number, _)| *number == self).map_or("", |(_, text)| text)
-    }
+impl Side {
+    /// Every side, ascending.
+    pub const ALL: &'static [Side] = &[Side::Rules, Side::Bundle, Side::Call];
 }
 
 impl Display for RefusalNumber {
@@ -97,7 +81,11 @@ impl Display for RefusalNumber {
 
 impl Display for Side {
     fn fmt(&self, out: &mut Formatter) -> Told {
-        out.write_str(SIDES.iter().find(|(side, _)| side == self).map_or("", |(_, word)| word))
+        out.write_str(match self {
+            Side::Rules => "rules",
+            Side::Bundle => "bundle",
+            Side::Call => "call",
+        })
     }
 }
 
@@ -115,10 +103,10 @@ pub(crate) fn answered<T>(refused: c::Refusal, answer: T) -> Result<T, Refusal> 
     if refused.number == 0 {
         return Ok(answer);
     }
-    let number = RefusalNumber::all().find(|&number| number as u32 == refused.number);
-    let side = SIDES.iter().map(|&(side, _)| side).find(|&side| side as u32 == refused.side);
+    let number = RefusalNumber::ALL.iter().find(|&&number| number as u32 == refused.number);
+    let side = Side::ALL.iter().find(|&&side| side as u32 == refused.side);
     match (number, side) {
-        (Some(number), Some(side)) => Err(Refusal { number, side, place: refused.place }),
+        (Some(&number), Some(&side)) => Err(Refusal { number, side, place: refused.place }),
         _ => panic!("{refused:?}: the archive is of another version than this package"),
     }
 }

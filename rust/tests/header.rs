@@ -71,7 +71,7 @@ fn refusals_agree() {
         .map(|case| case.split_once(": return \"").expect("a text"))
         .map(|(name, text)| (defined(&format!("DZY_{name}")), text))
         .collect();
-    let due: Vec<(u64, &str)> = RefusalNumber::all().map(|number| (number as u64, number.text())).collect();
+    let due: Vec<(u64, &str)> = RefusalNumber::ALL.iter().map(|&number| (number as u64, number.text())).collect();
     assert_eq!(texts, due);
 }
 
