@@ -1,8 +1,10 @@
 # make run: the main job, on the worked site. make test: the whole gate. The others are for whoever works on it.
 PREFIX ?= /usr/local
 N ?= 1000000
+# the toolchain's command; RT=: installs what is built already
+RT ?= rt
 
-.PHONY: run test fuzz bench install
+.PHONY: run test fuzz bench install uninstall
 
 run:
 	@tests/run-worked-site.sh
@@ -17,12 +19,11 @@ fuzz:
 bench:
 	@bench/run.sh
 
-# the program, the archive, the header and the man page
+# the program, the archive, the header, pkg-config's file, the authors' tool, man pages and documents
 install:
-	rt check cleaner
-	rt staticlib dzyunagor
-	install -d $(DESTDIR)$(PREFIX)/bin $(DESTDIR)$(PREFIX)/lib $(DESTDIR)$(PREFIX)/include $(DESTDIR)$(PREFIX)/share/man/man1
-	install -m 755 target/bin/cleaner $(DESTDIR)$(PREFIX)/bin/cleaner
-	install -m 644 target/staticlib/libdzyunagor.a $(DESTDIR)$(PREFIX)/lib/libdzyunagor.a
-	install -m 644 include/dzyunagor.h $(DESTDIR)$(PREFIX)/include/dzyunagor.h
-	install -m 644 man/cleaner.1 $(DESTDIR)$(PREFIX)/share/man/man1/cleaner.1
+	$(RT) check cleaner
+	$(RT) staticlib dzyunagor
+	@DESTDIR='$(DESTDIR)' tools/install.sh install '$(PREFIX)'
+
+uninstall:
+	@DESTDIR='$(DESTDIR)' tools/install.sh uninstall '$(PREFIX)'

@@ -1,8 +1,13 @@
-/* Dzyunagor: cleans the facts of a site by its rules. C11, x86-64.
+/* Dzyunagor: cleans the facts of a site by its rules. C11 or C++17, Linux on x86-64.
  *
- * Every function takes rule files and bundles as bytes (docs/FORMAT.md) and keeps nothing: no state, no heap, no files.
- * A slice is a pointer, then its length in elements. The pointer is never NULL, also where the length is 0.
- * Lent outputs overlap neither each other nor the inputs.
+ * Every function takes rule files and bundles as bytes (docs/FORMAT.md). Any bytes and any numbers may be given: what is
+ * wrong with them is a refusal. What a caller owes is only this:
+ * - Slices are a pointer, then its length in elements. The pointer is valid for that length, and never NULL, also where
+ *   the length is 0.
+ * - Lent outputs overlap neither each other nor the inputs, and nobody else writes to either during the call.
+ * - Alignment is that of the pointer's type, as C gives it: 2 bytes for partners, 4 for records, 8 for a reader.
+ * - Stack: 24 KiB are enough for every call (measured: docs/SPEED.md). It does not grow with the input.
+ * - Threads: nothing. No function keeps anything: no state, no heap, no files, no locks. All may run at the same time.
  *
  * An answer starts with its refusal (docs/REFUSALS.md). Number 0: not refused.
  * Refused: all other fields are 0, and no lent memory is written.
@@ -17,6 +22,12 @@
 #ifdef __cplusplus
 extern "C" {
 #endif
+
+/* The version of this interface: a new major one breaks callers, a new minor one adds to it (CHANGES.md). */
+#define DZY_VERSION_MAJOR 1
+#define DZY_VERSION_MINOR 0
+#define DZY_VERSION_PATCH 0
+#define DZY_VERSION "1.0.0"
 
 /* The most facts of a bundle: a row of so many marks, partners or records is never too short. */
 #define DZY_MOST_FACTS 4096
@@ -40,22 +51,41 @@ extern "C" {
 #define DZY_BUNDLE 1
 #define DZY_CALL 2
 
-/* Numbers of refusals. */
-#define DZY_CUT 1      /* the bytes end before a number that is due is complete */
-#define DZY_LONG 2     /* a number of more than one byte, the last of them 0 */
-#define DZY_OVER 3     /* a third byte with its top bit set, or a value over 65,535 */
-#define DZY_COUNT 4    /* a count over its limit; more than 4,096 records */
-#define DZY_UNKNOWN 5  /* a rule kind over 4; a concept or role that is not declared; a concept record whose object is not 0 */
-#define DZY_BROKEN 6   /* a functional role on the right of a kind 2 rule */
-#define DZY_AFTER 7    /* bytes after the last item */
-#define DZY_ORDER 8    /* a fact or record not above the one before it */
-#define DZY_ROOM 9     /* a lent output too short */
-#define DZY_NO_FACT 10 /* a fact number not below the count */
+/* Numbers of refusals; dzy_refusal_text has what each means. */
+#define DZY_CUT 1
+#define DZY_LONG 2
+#define DZY_OVER 3
+#define DZY_TOO_MANY 4
+#define DZY_UNKNOWN 5
+#define DZY_BROKEN 6
+#define DZY_AFTER 7
+#define DZY_ORDER 8
+#define DZY_ROOM 9
+#define DZY_NO_FACT 10
+
+/* What a refusal's number means. */
+static inline const char *dzy_refusal_text(uint32_t number)
+{
+    switch (number) {
+    case 0: return "not refused";
+    case DZY_CUT: return "the bytes end before a number that is due is complete";
+    case DZY_LONG: return "a number of more than one byte, the last of them 0";
+    case DZY_OVER: return "a third byte with its top bit set, or a value over 65,535";
+    case DZY_TOO_MANY: return "a count over its limit";
+    case DZY_UNKNOWN: return "a rule kind over 4, a concept or role that is not declared, or a concept record whose object is not 0";
+    case DZY_BROKEN: return "a functional role on the right of a kind 2 rule";
+    case DZY_AFTER: return "bytes after the last item";
+    case DZY_ORDER: return "a fact or record not above the one before it";
+    case DZY_ROOM: return "a lent output too short";
+    case DZY_NO_FACT: return "a fact number not below the count";
+    default: return "no number of a refusal";
+    }
+}
 
 /* What is wrong, and where; number 0 if nothing is. */
 typedef struct dzy_refusal {
     uint32_t number; /* 0, or 1 to 10 */
-    uint32_t side;   /* 0 the rules, 1 the bundle, 2 the call's own arguments */
+    uint32_t side;   /* DZY_RULES, DZY_BUNDLE, or DZY_CALL: the call's own arguments */
     uint64_t place;  /* the byte, for sides 0 and 1; for side 2 the number of the record at fault, else 0 */
 } dzy_refusal;
 

@@ -1,7 +1,7 @@
 #!/usr/bin/env bash
 # The one place that knows how a program for x86-64 is run, and how C programs that link the library's archive are built: as they are on
 # x86-64, and elsewhere with the Rattle toolchain's emulator, compiler and C library for x86-64. From any folder, but `build` from the root.
-#   tools/x86.sh run PROGRAM                           runs it
+#   tools/x86.sh run PROGRAM [WORDS]                   runs it
 #   tools/x86.sh command PROGRAM                       prints the words that run it
 #   tools/x86.sh build SANITIZED OUT SOURCE ARCHIVE    SANITIZED: yes or no
 set -u
@@ -39,6 +39,6 @@ case "${1-} $machine" in
 "build x86_64") shift && build_here "$@" ;;
 "build "*) shift && build_elsewhere "$@" ;;
 "command "*) echo "${emulator[@]}" "$2" ;;
-"run "*) "${emulator[@]}" "$2" ;;
+"run "*) shift && "${emulator[@]}" "$@" ;;
 *) exit 2 ;;
 esac

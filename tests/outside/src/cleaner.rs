@@ -1,68 +1,13 @@
-//! The operations as the tests call them, and their answers laid out as the C header lays them out.
+//! The operations as the tests call them. Their answers are laid out as the C header lays them out, in the one file of the Rust package
+//! that says so: as part of the package where it is linked, else the file alone.
 
-#[repr(C)]
-#[derive(Clone, Copy, Debug, Default, PartialEq, Eq)]
-pub struct Refusal {
-    pub number: u32,
-    pub side: u32,
-    pub place: u64,
-}
-
-#[repr(C)]
-#[derive(Clone, Copy, Debug, Default, PartialEq, Eq)]
-pub struct Counts {
-    pub refused: Refusal,
-    pub facts: u32,
-    pub kept: u32,
-    pub alone: u32,
-    pub disputed: u32,
-}
-
-#[repr(C)]
-#[derive(Clone, Copy, Debug, Default, PartialEq, Eq)]
-pub struct Asked {
-    pub refused: Refusal,
-    pub mark: u32,
-    pub partner: u32,
-}
-
-#[repr(C)]
-#[derive(Clone, Copy, Debug, Default, PartialEq, Eq)]
-pub struct Answer {
-    pub refused: Refusal,
-    pub yes: u32,
-    pub fact: u32,
-}
-
-#[repr(C)]
-#[derive(Clone, Copy, Debug, Default, PartialEq, Eq)]
-pub struct Length {
-    pub refused: Refusal,
-    pub length: u64,
-}
-
-#[repr(C)]
-#[derive(Clone, Copy, Debug, Default, PartialEq, Eq, PartialOrd, Ord)]
-pub struct Record {
-    pub predicate: u32,
-    pub subject: u32,
-    pub object: u32,
-}
-
-#[repr(C)]
-#[derive(Clone, Copy, Debug, Default, PartialEq, Eq)]
-pub struct Start {
-    pub refused: Refusal,
-    pub at: u64,
-}
-
-#[repr(C)]
-#[derive(Clone, Copy, Debug, Default, PartialEq, Eq)]
-pub struct Yield {
-    pub refused: Refusal,
-    pub found: u32,
-    pub fact: Record,
-}
+#[cfg(not(feature = "library"))]
+#[path = "../../../rust/src/answers.rs"]
+mod answers;
+#[cfg(not(feature = "library"))]
+pub use answers::{Answer, Asked, Counts, Length, Record, Refusal, Start, Yield};
+#[cfg(feature = "library")]
+pub use dzyunagor::c::{Answer, Asked, Counts, Length, Record, Refusal, Start, Yield};
 
 /// One implementation of the operations; every field that does not apply is 0.
 pub trait Cleaner {

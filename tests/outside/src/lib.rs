@@ -1,5 +1,5 @@
 //! The outside tests of Dzyunagor: worlds, a plain reader and the steps, all written apart from the library.
-#![deny(unsafe_code)]
+#![forbid(unsafe_code)]
 
 pub mod arguments;
 pub mod brute;
