@@ -1,9 +1,11 @@
 // Tables of bits: a row of three words for each node, and in it a bit for each node.
 ghost use mathlib.Core.Path.{_≡_};
 ghost use Rattle.tables.specs.Bits.{has, IsTable, Added, Joined};
+use site::BasicConcept;
+use site::BasicRole;
 
 // The nodes: 128 basic concepts and 64 basic roles.
-pub const NODES: usize = 192;
+pub const NODES: usize = BasicConcept::COUNT as usize + BasicRole::COUNT as usize;
 // The words of a row, and the bits of a word.
 pub const WORDS: usize = 3;
 
