@@ -131,9 +131,13 @@ devices-are = (
   },
 )
 
--- the worked site's rules and kept facts have a finite world
-pub finite-world : HasFinite (siteOf R head) (kept itself (followsOf (siteOf R head)) reported)
-finite-world = subst⁻¹ (λ s. HasFinite s (kept itself (followsOf s) reported)) rules-read (subst⁻¹ (HasFinite worked) facts-kept devices-are)
+-- rule file R and bundle F are accepted, and the rules and the kept facts have a finite world
+pub finite-world : (checkRules R ≡ gives head) × (readBundle head F ≡ gives reported) × HasFinite (siteOf R head) (kept itself (followsOf (siteOf R head)) reported)
+finite-world = (
+  rules-accepted,
+  bundle-accepted,
+  subst⁻¹ (λ s. HasFinite s (kept itself (followsOf s) reported)) rules-read (subst⁻¹ (HasFinite worked) facts-kept devices-are),
+)
 
 -- z in for x where x is n + 1
 stand : (n z x : ℕ) → Dec (x ≡ suc n) → ℕ
