@@ -2,7 +2,7 @@
 # Compiles the header by itself, and the examples against the library's archive; runs them on the worked site and compares what they print.
 # The archive is for x86-64. On another processor tools/x86.sh compiles, links and runs the C examples, and the Rust examples, for want of
 # Rust's own library, are only checked by its compiler.
-# With a path it takes that archive, one for this machine, and builds none. It skips where the archive cannot be built, and says so.
+# With a path it takes that archive, one for this machine, and builds none. What it cannot run here it notes (tools/not-run.sh).
 set -u
 cd "$(dirname "$0")/.." || exit 2
 archive=${1:-target/staticlib/libdzyunagor.a}
@@ -59,6 +59,8 @@ done
 if command -v c++ >/dev/null 2>&1; then
   echo '#include "dzyunagor.h"' >"$work/header.cc"
   c++ -std=c++17 -Wall -Wextra -Wpedantic -Werror -Iinclude -c "$work/header.cc" -o "$work/header-cc.o" || fail "the header does not compile as C++"
+else
+  tools/not-run.sh "the header compiled as C++" "the command c++ is missing (Debian package g++)"
 fi
 for name in "${rust[@]}"; do
   rustc --edition 2021 -D warnings --emit=metadata "examples/rust/$name.rs" -o "$work/$name.rmeta" || fail "examples/rust/$name.rs does not compile"
@@ -67,19 +69,10 @@ done
 
 across=no
 if [ $# -eq 0 ]; then
-  if ! command -v rt >/dev/null 2>&1; then
-    echo "examples: not linked: the command rt is not on the PATH, so that the archive cannot be built"
+  tools/archive.sh || {
+    fail "the archive is not built"
     exit "$bad"
-  fi
-  if ! grep -q '^dzyunagor:' crates.txt; then
-    echo "examples: not linked: crates.txt has no crate dzyunagor yet, so that the archive cannot be built"
-    exit "$bad"
-  fi
-  if ! rt staticlib dzyunagor >"$work/log" 2>&1; then
-    tail -n 20 "$work/log"
-    fail "rt staticlib dzyunagor does not build the archive"
-    exit "$bad"
-  fi
+  }
   if [ "$(uname -m)" != x86_64 ]; then
     across=yes
     runner=(tools/x86.sh run)
@@ -94,7 +87,7 @@ for name in "${c[@]}"; do
   fi
 done
 if [ "$across" = yes ]; then
-  echo "examples: those in Rust are compiled and not linked: the archive is for x86-64, this machine is $(uname -m)"
+  tools/not-run.sh "the examples in Rust, linked and run" "the archive is for x86-64, this machine is $(uname -m); they are compiled"
   exit "$bad"
 fi
 for name in "${rust[@]}"; do

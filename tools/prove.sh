@@ -13,7 +13,7 @@ count=$(wc -l <<<"$crates")
 mkdir -p target
 log=target/$name.log
 shown=0
-line=''
+long=no
 
 # rt has a group of its own, so that it ends with all that it started if this script is stopped
 set -m
@@ -23,25 +23,24 @@ set +m
 trap 'kill -- -"$rt" 2>/dev/null' EXIT
 trap 'exit 130' INT TERM HUP
 
-# the crates that are proved so far
+# the crates that are proved so far, each with how it was: seconds, or unchanged
 proved() {
-  sed -n 's/^rt: \([a-z0-9_]*\) proved.*/\1/p' "$log"
+  sed -n 's/^rt: \([a-z0-9_]*\) proved (\(.*\)).*/\1 \2/p' "$log"
 }
 
-# on a terminal one line, of the crate that is worked at; else a line for each crate that is proved
+# on a terminal one line, of the crate that is worked at; else a line for each crate that has been proved since the last time
 show() {
-  local done one
-  done=$(proved)
+  local so_far one how
+  so_far=$(proved)
   if [ -t 2 ]; then
-    one=$(grep -vxF -e "$done" <<<"$crates" | head -n 1)
-    line="crate $(($(grep -c . <<<"$done") + 1)) of $count: ${one:-$name}, $SECONDS s so far"
-    [ -n "$one" ] && printf '\r\033[K%s' "$line" >&2
+    one=$(grep -vxF -e "$(cut -d' ' -f1 <<<"$so_far")" <<<"$crates" | head -n 1)
+    [ -n "$one" ] && printf '\r\033[Kcrate %d of %d: %s, %d s so far' "$(($(grep -c . <<<"$so_far") + 1))" "$count" "$one" "$SECONDS" >&2
     return
   fi
-  while read -r one; do
+  while read -r one how; do
     shown=$((shown + 1))
-    echo "crate $shown of $count: $one proved, $SECONDS s so far" >&2
-  done < <(tail -n "+$((shown + 1))" <<<"$done" | grep .)
+    [[ $how == unchanged* ]] || echo "crate $shown of $count: $one proved, $SECONDS s so far" >&2
+  done < <(tail -n "+$((shown + 1))" <<<"$so_far" | grep .)
 }
 
 # waits till rt has ended, or for so many tenths of a second
@@ -55,6 +54,7 @@ ended() {
 }
 
 if ! ended 20; then
+  long=yes
   echo "$text" >&2
   echo "What the prover says is in $log." >&2
   [ $# -gt 0 ] && "$@" >&2
@@ -68,7 +68,7 @@ trap - EXIT
 if [ "$status" -ne 0 ]; then
   echo "FAILED: rt $verb $name. The end of $log:" >&2
   tail -n 20 "$log" | cut -c 1-300 >&2
-elif [ -n "$line$shown" ] && [ "$SECONDS" -gt 2 ]; then
+elif [ "$long" = yes ]; then
   echo "$name: $count crates proved, $SECONDS s" >&2
 fi
 exit "$status"
