@@ -17,21 +17,21 @@ tools/x86.sh build no "$built/archive" bench/archive.c target/staticlib/libdzyun
 ARCHIVE=$(tools/x86.sh command "$built/archive")
 export ARCHIVE
 
-# the lines that are read, and on standard error a table's heading and a line's first two cells as each case is done
+# the lines that are read; on standard error each table's heading, and each line of a table as it is measured, by its name and its facts
 tell_cases() {
-  local line cases=0 rest
+  local line before='' cells='' cases=0
   while IFS= read -r line; do
     printf '%s\n' "$line"
     case $line in
     '## '*) echo "bench: ${line#\#\# }" >&2 ;;
-    '|---'*) rest=yes ;;
+    '|---'*) case $before in '| bundle '*) cells=2,3 ;; *) cells=2 ;; esac ;;
     '| '*)
-      [ "${rest:-}" = yes ] || continue
-      cases=$((cases + 1))
-      echo "bench: case $cases done, $SECONDS s: $(cut -d'|' -f2,3 <<<"$line")" >&2
+      [ -z "$cells" ] || cases=$((cases + 1))
+      [ -z "$cells" ] || echo "bench: case $cases measured, $SECONDS s so far:$(cut -d'|' -f"$cells" <<<"$line" | sed 's/ |/,/')" >&2
       ;;
-    '') rest='' ;;
+    *) cells='' ;;
     esac
+    before=$line
   done
 }
 

@@ -66,7 +66,7 @@ wait "$rt"
 status=$?
 trap - EXIT
 if [ "$status" -ne 0 ]; then
-  echo "FAILED: rt $verb $name. The end of $log:" >&2
+  echo "FAILED: rt $verb $name, status $status. The end of $log:" >&2
   tail -n 20 "$log" | cut -c 1-300 >&2
 elif [ "$long" = yes ]; then
   echo "$name: $count crates proved, $SECONDS s" >&2
