@@ -1,13 +1,10 @@
 #!/usr/bin/env bash
 # Runs the built program in folders of its own, on document 01's sites, on the second site and on files that are missing, broken, full or too
-# long, and compares what it prints to the byte. `rt check cleaner` builds it.
+# long, and compares what it prints to the byte. It is built first if the sources have changed.
 set -u
 cd "$(dirname "$0")/.." || exit 2
+tools/prove.sh check cleaner "Proving and building the program: about 4 minutes on two cores the first time." || exit 1
 program=$PWD/target/bin/cleaner
-[ -x "$program" ] || {
-  echo "program: target/bin/cleaner is not there: rt check cleaner builds it"
-  exit 1
-}
 x86=$PWD/tools/x86.sh
 work=$(mktemp -d)
 trap 'rm -rf "$work"' EXIT

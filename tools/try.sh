@@ -16,7 +16,7 @@ for crate in $(tools/crates.sh "$name"); do
     [ -e "crates/$crate/$part" ] && cp -r "crates/$crate/$part" "$copy/crates/$crate/"
   done
 done
-mv "$copy/crates/number" "$copy/crates/numbers"
+[ -d "$copy/crates/number" ] && mv "$copy/crates/number" "$copy/crates/numbers"
 find "$copy/crates" -name '*.rt' -exec sed -i -E 's/\bnumber::/numbers::/g' {} +
 sed -E 's/\bnumber\b/numbers/g' crates.txt >"$copy/crates.txt"
 cd "$copy" && rt try "$name"
