@@ -42,6 +42,8 @@ if [ -d "${DOCUMENTS:-../shared}" ]; then
   refused "a row of a table with another number" 's/^> \| 9 \|/> | 8 |/' 'not in this order: 8 a lent output'
   refused "a quote in a section of our own" 's/^Readers, writers and functions over records/> &/' "quotes under 'Below the face'"
   DOCUMENTS=$work tests/trace.py >"$work/said" && failed "the trace passes a folder without the documents"
+else
+  tools/not-run.sh "the trace's sentences against the customer's documents" "the documents are not in this repository, and DOCUMENTS names no folder with them"
 fi
 DOCUMENTS=$work/none tests/trace.py | grep '^the sentences were not held to the documents' >/dev/null || failed "a clone that stands alone is not told of"
 tests/trace.py >/dev/null || failed "the trace refuses the page itself"

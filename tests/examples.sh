@@ -3,7 +3,7 @@
 # worked site and compares what they print; runs the package's tests.
 # The archive is for x86-64. On another processor tools/x86.sh compiles, links and runs the C examples, and what is in Rust, for want of
 # Rust's own library, is only checked by its compiler.
-# With a path it takes that archive, one for this machine, and builds none. It skips where the archive cannot be built, and says so.
+# With a path it takes that archive, one for this machine, and builds none. What it cannot run here it notes (tools/not-run.sh).
 set -u
 cd "$(dirname "$0")/.." || exit 2
 archive=$(realpath -m "${1:-target/staticlib/libdzyunagor.a}")
@@ -127,25 +127,18 @@ cc "${strict[@]}" -Wno-unused-variable -c "$work/readme.c" -o "$work/readme.o" |
 if command -v c++ >/dev/null 2>&1; then
   echo '#include "dzyunagor.h"' >"$work/header.cc"
   c++ -std=c++17 -Wall -Wextra -Wpedantic -Werror -Iinclude -c "$work/header.cc" -o "$work/header-cc.o" || fail "the header does not compile as C++"
+else
+  tools/not-run.sh "the header compiled as C++" "the command c++ is missing (Debian package g++)"
 fi
 cargo_here check --all-targets || fail "the Rust package, its tests or the Rust examples do not compile"
 [ "$bad" -eq 0 ] && echo "examples: the header, the examples and the Rust package compile"
 
 across=no
 if [ $# -eq 0 ]; then
-  if ! command -v rt >/dev/null 2>&1; then
-    echo "examples: not linked: the command rt is not on the PATH, so that the archive cannot be built"
+  tools/archive.sh || {
+    fail "the archive is not built"
     exit "$bad"
-  fi
-  if ! grep -q '^dzyunagor:' crates.txt; then
-    echo "examples: not linked: crates.txt has no crate dzyunagor yet, so that the archive cannot be built"
-    exit "$bad"
-  fi
-  if ! rt staticlib dzyunagor >"$work/log" 2>&1; then
-    tail -n 20 "$work/log"
-    fail "rt staticlib dzyunagor does not build the archive"
-    exit "$bad"
-  fi
+  }
   if [ "$(uname -m)" != x86_64 ]; then
     across=yes
     runner=("$PWD/tools/x86.sh" run)
@@ -160,7 +153,7 @@ for name in "${c[@]}"; do
   fi
 done
 if [ "$across" = yes ]; then
-  echo "examples: what is in Rust is compiled and not linked: the archive is for x86-64, this machine is $(uname -m)"
+  tools/not-run.sh "the examples and the package in Rust, linked and run" "the archive is for x86-64, this machine is $(uname -m); they are compiled"
   exit "$bad"
 fi
 if cargo_here build --examples; then

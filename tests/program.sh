@@ -1,13 +1,10 @@
 #!/usr/bin/env bash
-# Runs the built program in folders of its own, on document 01's sites and on files that are missing, broken, full or too long, and compares
-# what it prints to the byte. `rt check cleaner` builds it.
+# Runs the built program in folders of its own, on document 01's sites, on the second site and on files that are missing, broken, full or too
+# long, and compares what it prints to the byte. It is built first if the sources have changed.
 set -u
 cd "$(dirname "$0")/.." || exit 2
+tools/prove.sh check cleaner "Proving and building the program: about 4 minutes on two cores the first time." || exit 1
 program=$PWD/target/bin/cleaner
-[ -x "$program" ] || {
-  echo "program: target/bin/cleaner is not there: rt check cleaner builds it"
-  exit 1
-}
 x86=$PWD/tools/x86.sh
 work=$(mktemp -d)
 trap 'rm -rf "$work"' EXIT
@@ -62,6 +59,10 @@ lengthen bundle.bin 70000
 prints "a bundle longer than the buffer" <<<"refused 7 in bundle at 17"
 lengthen rules.bin 70000
 prints "rules longer than the buffer" <<<"refused 7 in rules at 17"
+
+site
+tools/site build examples/second-site/site.txt -o "$work/site" >/dev/null || bad=1
+prints "the second site" <examples/second-site/listing.txt
 
 site
 prints "no files" <<<"refused 1 in rules at 0"
