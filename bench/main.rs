@@ -66,8 +66,8 @@ fn ratio(ours: f64, theirs: f64) -> String {
 
 /// What the library's text fills.
 struct Tables {
-    included: [u64; 576],
-    excluded: [u64; 576],
+    included: text::tables::Table,
+    excluded: text::tables::Table,
     functional: u64,
 }
 
@@ -79,7 +79,7 @@ fn head_of(rules: &[u8]) -> Head {
 }
 
 fn fill(rules: &[u8], head: Head) -> Tables {
-    let mut t = Tables { included: [0; 576], excluded: [0; 576], functional: 0 };
+    let mut t = Tables { included: text::tables::BLANK, excluded: text::tables::BLANK, functional: 0 };
     t.functional = text::follows::fill(rules, head, &mut t.included, &mut t.excluded);
     t
 }
@@ -90,8 +90,8 @@ fn same_tables(rules: &[u8]) -> (usize, usize) {
     let (mut included, mut excluded) = (0, 0);
     for x in 0..NODES {
         for y in 0..NODES {
-            assert_eq!(text::follows::get(&ours.included, x, y), theirs.included[x][y], "included {x} {y}");
-            assert_eq!(text::follows::get(&ours.excluded, x, y), theirs.excluded[x][y], "excluded {x} {y}");
+            assert_eq!(text::tables::get(&ours.included, x, y), theirs.included[x][y], "included {x} {y}");
+            assert_eq!(text::tables::get(&ours.excluded, x, y), theirs.excluded[x][y], "excluded {x} {y}");
             included += usize::from(theirs.included[x][y]);
             excluded += usize::from(theirs.excluded[x][y]);
         }

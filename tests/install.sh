@@ -23,11 +23,6 @@ try() {
   fi
 }
 
-# what a test needs and is not here
-skip() {
-  echo "not run here: $1"
-}
-
 pkg() {
   PKG_CONFIG_LIBDIR=$root/lib/pkgconfig PKG_CONFIG_SYSROOT_DIR=$DESTDIR pkg-config "$@" dzyunagor
 }
@@ -71,10 +66,10 @@ if command -v pkg-config >/dev/null 2>&1; then
   if [ "$(uname -m)" = x86_64 ]; then
     try "an example is compiled through pkg-config and runs" compiles
   else
-    skip "linking, since the archive is for x86-64"
+    tools/not-run.sh "the installed archive, linked" "the archive is for x86-64, this machine is $(uname -m)"
   fi
 else
-  skip "pkg-config"
+  tools/not-run.sh "what pkg-config says of the installed library" "the command pkg-config is missing (Debian package pkg-config)"
 fi
 try "the installed site cleans the worked site" cleans
 try "every document that is cited is installed" cited
