@@ -1,7 +1,7 @@
 #!/usr/bin/env bash
 # The house's checks notice what they must. Each fault is made in a copy, of the trace's page or of the sources, and the check must tell it:
 # names that are gone and sentences that are wrong (trace.py), dead lemmas (dead_lemmas.py), uncalled functions and unused constants
-# (uncalled.py), holes and axioms (plain.sh).
+# (uncalled.py), quotes that no document has (quoted.py), holes and axioms (plain.sh).
 # shellcheck disable=SC2016
 set -u
 cd "$(dirname "$0")/.." || exit 2
@@ -68,6 +68,13 @@ told uncalled.py crates/site/src/nodes.rt '\nimpl Declared {\n    pub fn new(rol
 told uncalled.py crates/site/src/nodes.rt '\nimpl Concept {\n    pub fn halve(x: u32) -> u32 {\n        if x < 2 {\n            return x;\n        }\n        Concept::halve(x / 2)\n    }\n}\n' ': nothing calls Concept::halve'
 told uncalled.py crates/rules/src/read.rt '\nfn push(x: u32) -> u32 {\n    x\n}\n' ': nothing calls push'
 told uncalled.py crates/rules/src/read.rt '\nconst ROOM: u32 = 1;\n' ': nothing uses ROOM'
+
+if [ -d "${DOCUMENTS:-../shared}" ]; then
+  DOCUMENTS=$(realpath "${DOCUMENTS:-../shared}")
+  export DOCUMENTS
+  told quoted.py crates/site/specs/Kinds.antt '\n-- "a device that nobody owns"\n' 'not in the documents: a device that nobody owns'
+  told quoted.py crates/site/src/nodes.rt '\n// "Only the shortest form .. may pass"\n' 'not in the documents: may pass'
+fi
 
 # ---- holes and axioms: a text, by itself in a crate, and whether it must be found
 plain() {

@@ -8,7 +8,7 @@ use Rattle.number.specs.declared.refusal.Refusal.{Refusal}
 abbrev pub refusal : ℕ → ℕ → ℕ → Refusal
 refusal number side place = record { number = number; side = side; place = place }
 
--- "it does its work, or refuses"
+-- "It does its work or refuses"
 pub data Answer (A : Type 0) : Type 0 where
   gives : A → Answer A
   refuses : Refusal → Answer A

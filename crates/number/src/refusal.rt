@@ -38,7 +38,7 @@ impl Refusal {
         side: 0,
         place: 0,
     };
-    // "9: a lent output is too short", at place 0 of the call's own arguments.
+    // 9, "a lent output is too short", at place 0 of the call's own arguments.
     pub const NO_ROOM: Refusal = Refusal {
         number: Refusal::ROOM,
         side: Refusal::CALL,

@@ -65,14 +65,14 @@ impl Role {
         2 * wide(self.number) + 1
     }
 
-    // The number among the nodes of "has some partner by it".
+    // The number among the nodes of having some partner by it.
     pub fn some_forward(self) -> usize
         ensures { λ r. ⌜ r ≡ nodeCode (concept (some (forward (self .number)))) ⌝ }
     {
         wide(Concept::COUNT) + self.forward()
     }
 
-    // That of "has some partner by its inverse".
+    // That of having some partner by its inverse.
     pub fn some_inverse(self) -> usize
         ensures { λ r. ⌜ r ≡ nodeCode (concept (some (inverse (self .number)))) ⌝ }
     {

@@ -21,7 +21,8 @@ use Rattle.worlds.specs.Worlds.{Is, Joins, Consistent, LeftOut, LowestCo
 
 -- the statement for a site's rules and facts
 pub record SiteDecided (h : Head) (s : Site) (facts : List Fact) : Type 1 where
-  -- "dropped = left out by some maximal consistent set"
+  -- "A fact is dropped exactly if some consistent set of the bundle's facts, to which no further fact of the bundle can be added consistently, leaves it
+  -- out."
   pub dropped : (f : Fact) → List·Memᴰ f facts → (mark itself (followsOf s) facts f ≡ 0 → ⊥) ↔ LeftOut itself s facts f
   -- "Alone": no world by itself
   pub alone : (f : Fact) → List·Memᴰ f facts → (mark itself (followsOf s) facts f ≡ 1) ↔ (Consistent itself s (f ∷ []) → ⊥)
@@ -29,7 +30,7 @@ pub record SiteDecided (h : Head) (s : Site) (facts : List Fact) : Type 1 where
   pub partner-of : (f : Fact) → List·Memᴰ f facts → mark itself (followsOf s) facts f ≡ 2 → LowestConflict itself s facts f (partner itself (followsOf s) facts f)
   -- "kept facts are consistent"
   pub consistent : Consistent itself s (kept itself (followsOf s) facts)
-  -- "yes = true in every world of rules and kept facts", for "B of a"
+  -- "a question is answered yes exactly if it holds in every world of the rules and the kept facts", for "B of a"
   pub of-thing : (code a : ℕ) → conceptDeclared (h .concepts) (h .roles) code ≡ true → a ≤ mostThing
       → (support itself (followsOf s) facts (typ (concept (conceptOf code)) a a) < length facts)
       ↔ Always itself s (kept itself (followsOf s) facts) (λ w. Is w (conceptOf code) (w .thing a))

@@ -58,7 +58,7 @@ pub record WorldOf (ρ : ℕ → ℕ) (s : Site) (facts : List Fact) (w : World)
   pub holds : (f : Fact) → List·Memᴰ f facts → Holds w f
 
 module _ (ρ : ℕ → ℕ) (s : Site) where
-  -- "consistent = some world, perhaps infinite, satisfies rules and facts"
+  -- "consistent if some world, perhaps without end, satisfies the rules and these facts"
   abbrev pub Consistent : List Fact → Type 1
   Consistent facts = (w : World) × WorldOf ρ s facts w
 
@@ -68,7 +68,7 @@ module _ (ρ : ℕ → ℕ) (s : Site) where
     pub consistent : Consistent set
     pub full : (f : Fact) → List·Memᴰ f facts → Consistent (f ∷ set) → List·Memᴰ f set
 
-  -- "dropped = left out by some maximal consistent set"
+  -- "some consistent set of the bundle's facts, to which no further fact of the bundle can be added consistently, leaves it out"
   abbrev pub LeftOut : List Fact → Fact → Type 1
   LeftOut facts f = (set : List Fact) × Maximal facts set × (List·Memᴰ f set → ⊥)
 
@@ -84,6 +84,6 @@ module _ (ρ : ℕ → ℕ) (s : Site) where
     pub conflict : (d : Fact) → Conflict f (getD facts n d)
     pub lowest : (d : Fact) (k : ℕ) → k < n → Conflict f (getD facts k d) → ⊥
 
-  -- "yes = true in every world of rules and kept facts"
+  -- "it holds in every world of the rules and the kept facts"
   abbrev pub Always : List Fact → ((w : World) → Type 0) → Type 1
   Always facts P = (w : World) → WorldOf ρ s facts w → P w
