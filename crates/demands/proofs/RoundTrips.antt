@@ -1,23 +1,28 @@
 -- Demand 2, one bundle for each list: both round trips, and the same through rows of records.
-use Prim.Native.Nat.{ℕ, _≤_}
-use mathlib.Core.Path.{_≡_, sym, ap, subst, _∙_}
-use mathlib.Core.Bool.{cond}
+use Prim.Native.Nat.{ℕ, _+_, _≤_}
+use mathlib.Core.Path.{_≡_, refl, sym, ap, subst, _∙_}
+use mathlib.Core.Bool.{Bool, true, false, cond, not, _&&_}
 use mathlib.Core.List.{List, map}
-use lib.Dec.{leb}
-use Rattle.site.specs.Limits.{mostFacts}
+use lib.Dec.{leb, eqb}
 use lib.ListN.{length, length-map, take}
 use native.Mathlib.Omega.{arith}
-use borrow.Author.Tests.{le-leb, leb-true}
+use borrow.Author.Tests.{le-leb, leb-true, eq-eqb}
 use Rattle.number.specs.Answer.{Answer, refusal, over, laid}
 use Rattle.number.specs.Answer.Answer.{gives, refuses}
 use Rattle.number.proofs.Answers.{went, passed, given-once, over-given}
 use Rattle.number.proofs.Laid.{laid-taken}
 use Rattle.number.proofs.Laws.{Bytes}
+use Rattle.site.specs.Kinds.{ofConcept}
+use Rattle.site.specs.Limits.{mostFacts, mostThing}
+use Rattle.site.specs.declared.fact.Fact.{Fact}
 use Rattle.rules.specs.RuleFile.{checkRules}
-use Rattle.bundle.specs.Bundle.{factsOf, bundleOf}
+use Rattle.rules.specs.declared.head.Head.{Head}
+use Rattle.bundle.specs.Bundle.{Last, ascends, factsOf, bundleOf}
 use Rattle.bundle.specs.Bundle.Last.{none}
-use Rattle.writer.specs.Records.{roomFor, recordsFrom, planRecords}
+use Rattle.bundle.specs.Lawful.{LawfulFact, LawfulFrom, LawfulFacts}
+use Rattle.bundle.specs.Lawful.LawfulFrom.{done, next}
 use Rattle.bundle.proofs.RoundTrips.{written-read, read-again}
+use Rattle.writer.specs.Records.{roomFor, recordFault, recordsFrom, planRecords}
 use Rattle.records.specs.Rows.{recordOf, factOf, handOut, handRecords, writeRow}
 use Rattle.records.specs.declared.record.Record.{Record}
 use Rattle.records.proofs.Filling.{handed-out}
@@ -50,8 +55,8 @@ roomy room bundle fits = rw (le-leb (length bundle) room fits)
 records-back : (rules bundle : List ℕ) → Bytes bundle → (row row′ : List Record) (r : DzyLength) → Records rules bundle row r row′ → Done (r .refused)
     → (out out′ : List ℕ) (w : DzyLength) → WriteRecords rules (take (r .length) row′) out w out′ → length bundle ≤ length out
     → (w ≡ shownLength (gives (length bundle))) × (out′ ≡ laid out 0 (gives bundle))
-records-back rules bundle bytes row row′ r p done out out′ w q fits =
-    let g = records-tells rules bundle row row′ r p .given done in
+records-back rules bundle bytes row row′ r p plain out out′ w q fits =
+    let g = records-tells rules bundle row row′ r p .given plain in
     let same : take (r .length) row′ ≡ g .value = handed-front row row′ (g .value) r (handRecords rules bundle (length row)) (g .is) (handed-fits rules bundle (length row) (g .value) (g .is)) (p .memory) (p .answer) in
     let written : writeRow rules (length out) (take (r .length) row′) ≡ gives bundle =
     ap (writeRow rules (length out)) same ∙ out-and-back rules bundle (length row) (g .value) bytes (g .is) (length out) ∙ roomy (length out) bundle fits in
@@ -70,8 +75,8 @@ fitted rules row room bytes e =
 rows-back : (rules : List ℕ) (row : List Record) (out out′ : List ℕ) (w : DzyLength) → WriteRecords rules row out w out′ → Done (w .refused)
     → (lent lent′ : List Record) (r : DzyLength) → Records rules (take (w .length) out′) lent r lent′ → length row ≤ length lent
     → (r ≡ shownLength (gives (length row))) × (lent′ ≡ laid lent 0 (gives row))
-rows-back rules row out out′ w p done lent lent′ r q fits =
-    let g = write-records-tells rules row out out′ w p .given done in
+rows-back rules row out out′ w p plain lent lent′ r q fits =
+    let g = write-records-tells rules row out out′ w p .given plain in
     let long : w .length ≡ length (g .value) = ap (λ (l : DzyLength). l .length) (p .answer ∙ ap (λ (b : Answer (List ℕ)). shownLength (over length b)) (g .is)) in
     let front : take (w .length) out′ ≡ g .value =
     ap (λ (n : ℕ). take n out′) long ∙ ap (take (length (g .value))) (p .memory ∙ ap (laid out 0) (g .is)) ∙ laid-taken out (g .value) (fitted rules row (length out) (g .value) (g .is)) in
@@ -79,6 +84,40 @@ rows-back rules row out out′ w p done lent lent′ r q fits =
     ap (λ (l : List ℕ). handRecords rules l (length lent)) front ∙ in-and-out rules (g .value) (length out) row (g .is) (length lent) fits in
     (q .answer ∙ ap (λ (b : Answer (List Record)). shownLength (over length b)) handed, q .memory ∙ ap (laid lent 0) handed)
 
+-- ---- a lawful list, handed in as records
+module _ (h : Head) where
+  -- a concept's record without an object
+  no-stray : (b : Bool) (object : ℕ) → (b ≡ true → object ≡ 0) → (b && not (eqb object 0)) ≡ false
+  no-stray true object empty = rw (eq-eqb object 0 (empty refl))
+  no-stray false object empty = refl
+
+  lawful-record : (last : Last) (f : Fact) → LawfulFact h f → ascends last f ≡ true → recordFault h last f ≡ 0
+  unfolding recordFault
+  lawful-record last f l up =
+      rw (l .known, no-stray (ofConcept f) (f .object) (l .no-object), le-leb (f .subject) mostThing (l .subject-within), le-leb (f .object) mostThing (l .object-within), up)
+
+  lawful-records : {last : Last} {facts : List Fact} → LawfulFrom h last facts → (k : ℕ) → recordsFrom h last k facts ≡ gives (k + length facts)
+  unfolding recordsFrom
+  lawful-records done k = ap gives (omega arith)
+  lawful-records (next {last = last} {f = f} {fs = fs} l up rest) k = rw (lawful-record last f l up) (lawful-records rest (k + 1) ∙ ap gives (omega arith))
+
+  lawful-planned : (room : ℕ) (facts : List Fact) → LawfulFacts h facts → planRecords h room facts ≡ roomFor room (bundleOf facts)
+  unfolding planRecords
+  lawful-planned room facts l = rw (le-leb (length facts) mostFacts (l .few), lawful-records (l .lawful) 0)
+
+planned : (rules : List ℕ) (h : Head) → checkRules rules ≡ gives h → (room : ℕ) (row : List Record) → writeRow rules room row ≡ planRecords h room (map factOf row)
+unfolding writeRow
+planned rules h read room row = rw read
+
+list-written : (rules : List ℕ) (h : Head) → checkRules rules ≡ gives h → (row : List Record) → LawfulFacts h (map factOf row)
+    → (out out′ : List ℕ) (w : DzyLength) → WriteRecords rules row out w out′ → length (bundleOf (map factOf row)) ≤ length out
+    → (w ≡ shownLength (gives (length (bundleOf (map factOf row))))) × (out′ ≡ laid out 0 (gives (bundleOf (map factOf row))))
+list-written rules h read row l out out′ w p fits =
+    (p .answer ∙ ap (λ (b : Answer (List ℕ)). shownLength (over length b)) written, p .memory ∙ ap (laid out 0) written)
+  where
+    written : writeRow rules (length out) row ≡ gives (bundleOf (map factOf row))
+    written = planned rules h read (length out) row ∙ lawful-planned h (length out) (map factOf row) l ∙ roomy (length out) (bundleOf (map factOf row)) fits
+
 pub round-trips : RoundTrips
 round-trips =
-    record { written-read = written-read; read-written = λ s bytes h facts e. sym (read-again s bytes h facts e); records-back = records-back; rows-back = rows-back }
+    record { written-read = written-read; read-written = λ s bytes h facts e. sym (read-again s bytes h facts e); list-written = list-written; records-back = records-back; rows-back = rows-back }

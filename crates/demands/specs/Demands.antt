@@ -20,6 +20,7 @@ use Rattle.rules.specs.declared.head.Head.{Head}
 use Rattle.bundle.specs.Bundle.{readBundle, bundleOf}
 use Rattle.bundle.specs.Lawful.{LawfulFacts}
 use Rattle.records.specs.Reading.Found.{fact, done}
+use Rattle.records.specs.Rows.{factOf}
 use Rattle.records.specs.declared.record.Record.{Record}
 use Rattle.records.specs.declared.reader.Reader.{Reader}
 use Rattle.clashes.specs.Types.{itself, typ}
@@ -101,26 +102,41 @@ module _ (rules bundle : List ℕ) where
     pub read : (r : DzyLength) → CheckBundle rules bundle r → Done (r .refused) → BothRead rules bundle
     pub counted : (a : BothRead rules bundle) (r : DzyLength) → CheckBundle rules bundle r → r ≡ shownLength (gives (length (a .facts)))
 
+-- refused by this number, for the call's own arguments or for room: side 2, place 0
+abbrev pub By : ℕ → DzyRefusal → Type 0
+By number x = x ≡ refused (refusal number 2 0)
+
 -- "refuses by number and place under the table in document 01": of files that were read, by arguments and room alone, and each refusal exactly then
 module _ {rules bundle : List ℕ} (a : BothRead rules bundle) where
   pub record RefusesExactly : Type 0 where
     -- 9: "a lent output is too short"
-    pub mark : (marks partners marks′ partners′ : List ℕ) (r : DzyCounts) → Mark rules bundle marks partners r marks′ partners′ → length (a .facts) ≤ length marks → length (a .facts) ≤ length partners → Done (r .refused)
-    pub mark-short : (marks partners marks′ partners′ : List ℕ) (r : DzyCounts) → Mark rules bundle marks partners r marks′ partners′ → (length marks < length (a .facts)) ⊎ (length partners < length (a .facts)) → r .refused ≡ refused (refusal 9 2 0)
-    pub write-kept : (out out′ : List ℕ) (r : DzyLength) → WriteKept rules bundle out r out′ → (facts : List Fact) → KeptFacts a facts → length (bundleOf facts) ≤ length out → Done (r .refused)
-    pub write-kept-short : (out out′ : List ℕ) (r : DzyLength) → WriteKept rules bundle out r out′ → (facts : List Fact) → KeptFacts a facts → length out < length (bundleOf facts) → r .refused ≡ refused (refusal 9 2 0)
+    pub mark : (marks partners marks′ partners′ : List ℕ) (r : DzyCounts) → Mark rules bundle marks partners r marks′ partners′
+        → length (a .facts) ≤ length marks → length (a .facts) ≤ length partners → Done (r .refused)
+    pub mark-short : (marks partners marks′ partners′ : List ℕ) (r : DzyCounts) → Mark rules bundle marks partners r marks′ partners′
+        → (length marks < length (a .facts)) ⊎ (length partners < length (a .facts)) → By 9 (r .refused)
+    pub write-kept : (out out′ : List ℕ) (r : DzyLength) → WriteKept rules bundle out r out′
+        → (facts : List Fact) → KeptFacts a facts → length (bundleOf facts) ≤ length out → Done (r .refused)
+    pub write-kept-short : (out out′ : List ℕ) (r : DzyLength) → WriteKept rules bundle out r out′
+        → (facts : List Fact) → KeptFacts a facts → length out < length (bundleOf facts) → By 9 (r .refused)
     pub records : (row row′ : List Record) (r : DzyLength) → Records rules bundle row r row′ → length (a .facts) ≤ length row → Done (r .refused)
-    pub records-short : (row row′ : List Record) (r : DzyLength) → Records rules bundle row r row′ → length row < length (a .facts) → r .refused ≡ refused (refusal 9 2 0)
+    pub records-short : (row row′ : List Record) (r : DzyLength) → Records rules bundle row r row′
+        → length row < length (a .facts) → By 9 (r .refused)
     -- 10: "fact number not below the count"
     pub ask : (k : ℕ) (r : DzyAsked) → Ask rules bundle k r → k < length (a .facts) → Done (r .refused)
-    pub ask-over : (k : ℕ) (r : DzyAsked) → Ask rules bundle k r → length (a .facts) ≤ k → r .refused ≡ refused (refusal 10 2 0)
+    pub ask-over : (k : ℕ) (r : DzyAsked) → Ask rules bundle k r → length (a .facts) ≤ k → By 10 (r .refused)
     -- "Question: code (5), then things (3), left to right."
-    pub has : (code thing : ℕ) (r : DzyAnswer) → Has rules bundle code thing r → conceptDeclared (a .head .concepts) (a .head .roles) code ≡ true → thing ≤ mostThing → Done (r .refused)
-    pub has-undeclared : (code thing : ℕ) (r : DzyAnswer) → Has rules bundle code thing r → conceptDeclared (a .head .concepts) (a .head .roles) code ≡ false → r .refused ≡ refused (refusal 5 2 0)
-    pub has-over : (code thing : ℕ) (r : DzyAnswer) → Has rules bundle code thing r → conceptDeclared (a .head .concepts) (a .head .roles) code ≡ true → mostThing < thing → r .refused ≡ refused (refusal 3 2 0)
-    pub joins : (code from to : ℕ) (r : DzyAnswer) → Joins rules bundle code from to r → roleDeclared (a .head .roles) code ≡ true → from ≤ mostThing → to ≤ mostThing → Done (r .refused)
-    pub joins-undeclared : (code from to : ℕ) (r : DzyAnswer) → Joins rules bundle code from to r → roleDeclared (a .head .roles) code ≡ false → r .refused ≡ refused (refusal 5 2 0)
-    pub joins-over : (code from to : ℕ) (r : DzyAnswer) → Joins rules bundle code from to r → roleDeclared (a .head .roles) code ≡ true → (mostThing < from) ⊎ (mostThing < to) → r .refused ≡ refused (refusal 3 2 0)
+    pub has : (code thing : ℕ) (r : DzyAnswer) → Has rules bundle code thing r
+        → conceptDeclared (a .head .concepts) (a .head .roles) code ≡ true → thing ≤ mostThing → Done (r .refused)
+    pub has-undeclared : (code thing : ℕ) (r : DzyAnswer) → Has rules bundle code thing r
+        → conceptDeclared (a .head .concepts) (a .head .roles) code ≡ false → By 5 (r .refused)
+    pub has-over : (code thing : ℕ) (r : DzyAnswer) → Has rules bundle code thing r
+        → conceptDeclared (a .head .concepts) (a .head .roles) code ≡ true → mostThing < thing → By 3 (r .refused)
+    pub joins : (code from to : ℕ) (r : DzyAnswer) → Joins rules bundle code from to r
+        → roleDeclared (a .head .roles) code ≡ true → from ≤ mostThing → to ≤ mostThing → Done (r .refused)
+    pub joins-undeclared : (code from to : ℕ) (r : DzyAnswer) → Joins rules bundle code from to r
+        → roleDeclared (a .head .roles) code ≡ false → By 5 (r .refused)
+    pub joins-over : (code from to : ℕ) (r : DzyAnswer) → Joins rules bundle code from to r
+        → roleDeclared (a .head .roles) code ≡ true → (mostThing < from) ⊎ (mostThing < to) → By 3 (r .refused)
     -- nothing else is refused
     pub count : (r : DzyCounts) → Count rules bundle r → Done (r .refused)
     pub reader-start : (r : DzyStart) → ReaderStart rules bundle r → Done (r .refused)
@@ -163,6 +179,10 @@ Bytes s = (i : ℕ) → getD s i 0 < 256
 pub record RoundTrips : Type 0 where
   pub written-read : (h : Head) → h .roles ≤ mostRoles → (facts : List Fact) → LawfulFacts h facts → readBundle h (bundleOf facts) ≡ gives facts
   pub read-written : (s : List ℕ) → Bytes s → (h : Head) (facts : List Fact) → readBundle h s ≡ gives facts → s ≡ bundleOf facts
+  -- each such list, handed in as records, is written as its bundle
+  pub list-written : (rules : List ℕ) (h : Head) → checkRules rules ≡ gives h → (row : List Record) → LawfulFacts h (map factOf row)
+      → (out out′ : List ℕ) (w : DzyLength) → WriteRecords rules row out w out′ → length (bundleOf (map factOf row)) ≤ length out
+      → (w ≡ shownLength (gives (length (bundleOf (map factOf row))))) × (out′ ≡ laid out 0 (gives (bundleOf (map factOf row))))
   -- records that were handed out are written back as the same bundle
   pub records-back : (rules bundle : List ℕ) → Bytes bundle → (row row′ : List Record) (r : DzyLength) → Records rules bundle row r row′ → Done (r .refused)
       → (out out′ : List ℕ) (w : DzyLength) → WriteRecords rules (take (r .length) row′) out w out′ → length bundle ≤ length out
