@@ -26,7 +26,7 @@ use Rattle.bundle.proofs.Accepted.{accepted-lawful, accepted-count}
 use Rattle.clean.specs.Operations.{Marked, marking, keeping}
 use Rattle.records.specs.Rows.{handRecords, writeRow}
 use Rattle.records.specs.declared.record.Record.{Record}
-use Rattle.records.specs.declared.reader.Reader.{Reader}
+use Rattle.rows.specs.declared.reader.Reader.{Reader}
 use Rattle.records.proofs.OfReader.{refused-stays}
 use Rattle.dzyunagor.specs.Promises.{CheckBundle, Mark, WriteKept, Records, WriteRecords, ReaderNext}
 use Rattle.dzyunagor.specs.Shown.{refused, shownLength}

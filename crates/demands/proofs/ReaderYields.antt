@@ -12,7 +12,7 @@ use Rattle.site.specs.declared.fact.Fact.{Fact}
 use Rattle.bundle.specs.Bundle.{factsOf, checkBundle, readBundle}
 use Rattle.records.specs.Reading.{Found, readerStep, yieldsFrom}
 use Rattle.records.specs.Reading.Found.{fact, done}
-use Rattle.records.specs.declared.reader.Reader.{Reader}
+use Rattle.rows.specs.declared.reader.Reader.{Reader}
 use Rattle.records.proofs.OfReader.{yielded, starts, yields-all}
 use Rattle.dzyunagor.specs.Promises.{ReaderStart}
 use Rattle.dzyunagor.specs.Shown.{shownFound, shownStart, shownYield}

@@ -22,7 +22,7 @@ use Rattle.bundle.specs.Lawful.{LawfulFacts}
 use Rattle.records.specs.Reading.Found.{fact, done}
 use Rattle.records.specs.Rows.{factOf}
 use Rattle.records.specs.declared.record.Record.{Record}
-use Rattle.records.specs.declared.reader.Reader.{Reader}
+use Rattle.rows.specs.declared.reader.Reader.{Reader}
 use Rattle.clashes.specs.Types.{itself, typ}
 use Rattle.worlds.specs.Worlds.{Is, Joins as Joined, Consistent, LeftOut, LowestConflict, Always}
 use Rattle.dzyunagor.specs.Promises.{CheckRules, CheckBundle, Mark, Count, Ask, Has, Joins, WriteKept, Records, WriteRecords, ReaderStart, ReaderNext}

@@ -10,10 +10,11 @@ use Rattle.number.specs.declared.refusal.Refusal.{Refusal}
 use Rattle.site.specs.declared.fact.Fact.{Fact}
 use Rattle.records.specs.Reading.{readerStart}
 use Rattle.records.specs.Rows.{recordOf, handRecords, writeRow}
-use Rattle.records.specs.Told.{startTold, yieldTold, rowAnswer, Hands, Steps}
+use Rattle.records.specs.Told.{startTold, yieldTold, rowAnswer, Hands}
+use Rattle.rows.specs.Stepping.{Steps}
 use Rattle.records.specs.Written.{WritesRow}
 use Rattle.records.specs.declared.record.Record.{Record}
-use Rattle.records.specs.declared.reader.Reader.{Reader}
+use Rattle.rows.specs.declared.reader.Reader.{Reader}
 use Rattle.records.specs.declared.answer.RowAnswer.{RowAnswer}
 use Rattle.records.specs.declared.step.Started.{Started}
 use Rattle.records.specs.declared.step.Started.the-variants.{At, Refused as NotStarted}

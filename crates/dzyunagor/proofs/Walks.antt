@@ -4,7 +4,7 @@
 --     passes                   the MIR
 --     calls-giving             a call whose last values stay in the context, with the fact that it ensures of them in hand
 --     handed-on                the whole walk: from the callees' contracts, and a fact that takes them to the function's own
-use Rattle.records.proofs.Names.{_≡_, refl, ℕ, List, [], _∷_, Holds, length, URA, Ty, Fn, named, erased, w8, tyInt, tyRef, Val, WT, hasTy, SProp, ent, emp, via, fst∗, id⊢, Lft, Share, Fml, ftrue, flft, Model, Name, Heap, Env, Calls, Loops, Tables, WpFn, Closed, Atoms, fact, GhostRules, Running, tables, Given, Item, Seq, runs, lands, ‵, raw, _⊛_, ⋆, some, later, _$_, _∵_, !, qed, by, move, keep, drop, use1, use2, split, join, pick, fsplit, fjoin, feqL, suffices, frame, await, done, agg, whole, sub, look-in, look, init, forget, stop, hop, fld, from, load, addr, and-then, no-more, assigns, land, returns, enter, alloc1, alloc0, params1, pass1, pass0, free1, free0, Opds, FmC, fmOf, RattleType, owns, pointee, Is, shows, u8, RefT, now, plain, sliceVal, sliceTy, MutSlice, ShrSlice, Room, slice-vals, shr-slice-tells, shr-slice-lawful, mut-slice-tells, peeks, heard, nothing, Contract, Triple, calls-at, Clauses, Ended, lasts, Lasts, closing, onEntry, Meets, tripleOf, says, Stays, walkOf, Walks, ends-at, walked, yes}
+use Rattle.rows.proofs.Names.{_≡_, refl, ℕ, List, [], _∷_, Holds, length, URA, Ty, Fn, named, erased, w8, tyInt, tyRef, Val, WT, hasTy, SProp, ent, emp, via, fst∗, id⊢, Lft, Share, Fml, ftrue, flft, Model, Name, Heap, Env, Calls, Loops, Tables, WpFn, Closed, Atoms, fact, GhostRules, Running, tables, Given, Item, Seq, runs, lands, ‵, raw, _⊛_, ⋆, some, later, _$_, _∵_, !, qed, by, move, keep, drop, use1, use2, split, join, pick, fsplit, fjoin, feqL, suffices, frame, await, done, agg, whole, sub, look-in, look, init, forget, stop, hop, fld, from, load, addr, and-then, no-more, assigns, land, returns, enter, alloc1, alloc0, params1, pass1, pass0, free1, free0, Opds, FmC, fmOf, RattleType, owns, pointee, Is, shows, u8, RefT, now, plain, sliceVal, sliceTy, MutSlice, ShrSlice, Room, slice-vals, shr-slice-tells, shr-slice-lawful, mut-slice-tells, peeks, heard, nothing, Contract, Triple, calls-at, Clauses, Ended, lasts, Lasts, closing, onEntry, Meets, tripleOf, says, Stays, walkOf, Walks, ends-at, walked, yes}
 use contract.Running.{tablesOf}
 use prog.Routine.{Env as Named}
 use types.Kit.{Post as Goal}
@@ -13,8 +13,8 @@ use denote.Signature.{typeAt, shrSliceOf, mutSliceOf}
 use denote.Triple.Entry.{Res, alive}
 use denote.Triple.End.{outs}
 use denote.Triple.Walked.{stay-dropped, gave-slice, goes-dropped, goes-gave-slice}
-use Rattle.records.proofs.Closing.{close}
-use Rattle.records.proofs.Calling.{calls-to}
+use Rattle.rows.proofs.Closing.{close}
+use Rattle.rows.proofs.Calling.{calls-to}
 
 module _ {M : Type 1} {𝓤 : URA M} {H : Heap 𝓤} {A : Atoms 𝓤} {K : Type 0} {W : Given 𝓤 H A} {Γ : List (Item 𝓤)} {E : Env 𝓤 H} {C : Calls 𝓤 H} {Λ : Loops 𝓤 H} {q : Goal 𝓤 H} {f : Name} {xs : List Operand} {d : Place} {rest : Code} where
   pub calls-giving : K → FmC 𝓤 H (W .laws) C → (t : Ended) (c : Clauses 𝓤 t) → Triple 𝓤 (C f) (tripleOf 𝓤 H A (t .signature) (closing 𝓤 H A t c))

@@ -12,7 +12,7 @@ use Rattle.bundle.specs.Opened.{opening}
 use Rattle.records.specs.Reading.{readerStart, readerStep}
 use Rattle.records.specs.Rows.{handRecords, writeRow}
 use Rattle.records.specs.declared.record.Record.{Record}
-use Rattle.records.specs.declared.reader.Reader.{Reader}
+use Rattle.rows.specs.declared.reader.Reader.{Reader}
 use Rattle.dzyunagor.specs.Shown.{shownCounts, shownAsked, shownAnswer, shownLength, shownStart, shownYield}
 use Rattle.dzyunagor.specs.declared.shapes.DzyCounts.{DzyCounts}
 use Rattle.dzyunagor.specs.declared.shapes.DzyAsked.{DzyAsked}

@@ -5,8 +5,8 @@ mod shapes;
 mod show;
 
 use bundle::Opened;
-use records::Reader;
 use records::Record;
+use rows::Reader;
 use rules::RulesRead;
 pub use shapes::DzyAnswer;
 pub use shapes::DzyAsked;
@@ -117,7 +117,7 @@ pub extern "C" fn dzy_write_kept(rules: &[u8], bundle: &[u8], out: &mut [u8]) ->
 pub extern "C" fn dzy_records(rules: &[u8], bundle: &[u8], row: &mut [Record]) -> DzyLength
     ensures { λ r. ⌜ Records (now (rules .entry)) (now (bundle .entry)) (now (row .entry)) r (now (row .exit)) ⌝ }
 {
-    show_row(records::hand_records(rules, bundle, row))
+    show_row(rows::hand_records(rules, bundle, row))
 }
 
 // A row of records as a bundle, into a lent output, and its length.
@@ -125,7 +125,7 @@ pub extern "C" fn dzy_records(rules: &[u8], bundle: &[u8], row: &mut [Record]) -
 pub extern "C" fn dzy_write_records(rules: &[u8], row: &[Record], out: &mut [u8]) -> DzyLength
     ensures { λ r. ⌜ WriteRecords (now (rules .entry)) (now (row .entry)) (now (out .entry)) r (now (out .exit)) ⌝ }
 {
-    show_row(records::write_records(rules, row, out))
+    show_row(rows::write_records(rules, row, out))
 }
 
 // Where a reader of an accepted bundle starts; its caller puts it together from the bundle and this place.
@@ -141,5 +141,5 @@ pub extern "C" fn dzy_reader_start(rules: &[u8], bundle: &[u8]) -> DzyStart
 pub extern "C" fn dzy_reader_next<'s, 'a>(reader: &'s mut Reader<'a>) -> DzyYield
     ensures { λ r. ⌜ ReaderNext (now (reader .entry)) r (now (reader .exit)) ⌝ }
 {
-    show_yield(records::next(reader))
+    show_yield(rows::next(reader))
 }

@@ -31,7 +31,7 @@ use Rattle.records.specs.Reading.{Found, readerStart, readerStep}
 use Rattle.records.specs.Reading.Found.{fact, done}
 use Rattle.records.specs.Rows.{factOf, handOut, handRecords, writeRow}
 use Rattle.records.specs.declared.record.Record.{Record}
-use Rattle.records.specs.declared.reader.Reader.{Reader}
+use Rattle.rows.specs.declared.reader.Reader.{Reader}
 use Rattle.records.proofs.OfReader.{step-refused-how}
 use Rattle.dzyunagor.specs.Promises.{CheckRules, CheckBundle, Mark, Count, Ask, Has, Joins, WriteKept, Records, WriteRecords, ReaderStart, ReaderNext}
 use Rattle.dzyunagor.specs.Shown.{refused, shownCounts, shownAsked, shownAnswer, shownLength, shownStart, shownYield}

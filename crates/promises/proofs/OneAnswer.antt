@@ -4,7 +4,7 @@ use mathlib.Core.Path.{_≡_}
 use mathlib.Core.List.{List}
 use Rattle.number.proofs.One.{one, Same}
 use Rattle.records.specs.declared.record.Record.{Record}
-use Rattle.records.specs.declared.reader.Reader.{Reader}
+use Rattle.rows.specs.declared.reader.Reader.{Reader}
 use Rattle.dzyunagor.specs.Promises.{CheckRules, CheckBundle, Mark, Count, Ask, Has, Joins, WriteKept, Records, WriteRecords, ReaderStart, ReaderNext}
 use Rattle.dzyunagor.specs.declared.shapes.DzyCounts.{DzyCounts}
 use Rattle.dzyunagor.specs.declared.shapes.DzyAsked.{DzyAsked}

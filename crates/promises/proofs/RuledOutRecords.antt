@@ -8,7 +8,7 @@ use Rattle.number.specs.Answer.{over, laid}
 use Rattle.number.proofs.One.{Same}
 use Rattle.records.specs.Reading.{Stepped, readerStep}
 use Rattle.records.specs.declared.record.Record.{Record}
-use Rattle.records.specs.declared.reader.Reader.{Reader}
+use Rattle.rows.specs.declared.reader.Reader.{Reader}
 use Rattle.cases.proofs.Cases.{R, F}
 use Rattle.dzyunagor.specs.Promises.{CheckRules, CheckBundle, Records, WriteRecords, ReaderStart, ReaderNext}
 use Rattle.dzyunagor.specs.Shown.{notRefused, noRecord, shownLength, shownStart, shownYield}

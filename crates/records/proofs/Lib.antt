@@ -1,12 +1,5 @@
 pub mod Answers
-pub mod Calling
-pub mod Closing
 pub mod Filling
-pub mod Lending
-pub mod Locals
-pub mod Names
 pub mod OfReader
 pub mod OfRows
-pub mod OneAnswer
 pub mod Passes
-pub mod Turns

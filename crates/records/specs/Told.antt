@@ -3,11 +3,10 @@ use Prim.Native.Nat.{ℕ}
 use mathlib.Core.Path.{_≡_}
 use mathlib.Core.List.{List}
 use lib.ListN.{length}
-use denote.Ref.{now}
 use Rattle.number.specs.Answer.{Answer, over, laid}
 use Rattle.number.specs.Answer.Answer.{gives, refuses}
 use Rattle.bundle.specs.declared.facts.Facts.{Facts}
-use Rattle.records.specs.Reading.{Found, Stepped, readerStep}
+use Rattle.records.specs.Reading.{Found, Stepped}
 use Rattle.records.specs.Reading.Found.{fact, done}
 use Rattle.records.specs.Rows.{handRecords}
 use Rattle.records.specs.declared.step.Started.{Started}
@@ -15,7 +14,6 @@ use Rattle.records.specs.declared.step.Started.the-variants.{At, Refused
 use Rattle.records.specs.declared.step.Yield.{Yield}
 use Rattle.records.specs.declared.step.Yield.the-variants.{Fact, Refused as RefusedYield, Done}
 use Rattle.records.specs.declared.step.Step.{Step}
-use Rattle.records.specs.declared.reader.Reader.{Reader}
 use Rattle.records.specs.declared.record.Record.{Record}
 use Rattle.records.specs.declared.answer.RowAnswer.{RowAnswer}
 use Rattle.records.specs.declared.hand.Hand.{Hand}
@@ -34,12 +32,6 @@ yieldTold Done = gives done
 -- a step: what it yields, and the next byte afterwards
 abbrev pub stepTold : Step → Stepped
 stepTold s = record { yields = yieldTold (s .yields); next = s .next }
-
--- one step of a reader: what it yields, the same bundle, and the next byte afterwards
-pub record Steps (before : Reader) (y : Yield) (after : Reader) : Type 0 where
-  pub yields : yieldTold y ≡ readerStep (now (before .src)) (before .at) .yields
-  pub bundle : after .src ≡ before .src
-  pub next : after .at ≡ readerStep (now (before .src)) (before .at) .next
 
 -- "gives their count", "gives their bundle and its length": an answer over a row, or the refusal's number, side and place
 abbrev pub rowAnswer : Answer ℕ → RowAnswer

@@ -1,8 +1,8 @@
-// Handing a bundle's facts out as a lent row of records.
+// What is handed out of a bundle as a row of records: how many facts, from where, and each one's record.
 ghost use mathlib.Core.Path.{_≡_};
 ghost use Rattle.records.specs.Rows.{handOut, takeAt};
 ghost use Rattle.number.specs.Answer.Answer.{refuses};
-ghost use Rattle.records.specs.Told.{decided, Hands};
+ghost use Rattle.records.specs.Told.{decided};
 use crate::answer::RowAnswer;
 use crate::record::Record;
 use bundle::FactRead;
@@ -82,21 +82,4 @@ pub fn take_at(bundle: &[u8], at: usize) -> Taken
             next: at,
         },
     }
-}
-
-// "The console receives the facts as a lent row of fact records".
-pub fn hand_records(rules: &[u8], bundle: &[u8], row: &mut [Record]) -> RowAnswer
-    ensures { λ r. ⌜ Hands (now (rules .entry)) (now (bundle .entry)) (now (row .entry)) r (now (row .exit)) ⌝ }
-{
-    let hand = decide(rules, bundle, row.len());
-    let count = hand.count;
-    let mut at = hand.start;
-    let mut i = 0;
-    while i < count {
-        let taken = take_at(bundle, at);
-        row[i] = taken.slot;
-        at = taken.next;
-        i += 1;
-    }
-    hand.handed
 }

@@ -1,7 +1,6 @@
-// Facts as records: a reader that yields them one at a time, a lent row that receives them, and a row that is written as a bundle.
+// Facts as records: what is handed out, what one step of a reader yields, and the parts of writing a row as a bundle.
 mod answer;
 mod hand;
-mod reader;
 mod record;
 mod step;
 mod write;
@@ -10,10 +9,7 @@ pub use answer::RowAnswer;
 pub use hand::Hand;
 pub use hand::Taken;
 pub use hand::decide;
-pub use hand::hand_records;
 pub use hand::take_at;
-pub use reader::Reader;
-pub use reader::next;
 pub use record::Record;
 pub use step::Started;
 pub use step::Step;
@@ -24,6 +20,4 @@ pub use write::Opening;
 pub use write::end_row;
 pub use write::open_row;
 pub use write::push_record;
-pub use write::push_row;
 pub use write::turn_over;
-pub use write::write_records;

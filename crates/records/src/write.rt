@@ -1,12 +1,10 @@
-// Writing a row of records as a bundle: a first pass over the row judges and measures, a second stores.
+// The parts of writing a row of records as a bundle: its start, one record more, the turn between the two passes, and what it comes to.
 ghost use mathlib.Core.Path.{_≡_};
-ghost use Prim.Native.Nat.{_≤_};
-ghost use lib.ListN.{length, take};
 ghost use Rattle.number.specs.Answer.Answer.{refuses};
 ghost use Rattle.writer.specs.Pushed.{Pushes, wroteTold};
 ghost use Rattle.records.specs.Rows.{factOf};
 ghost use Rattle.records.specs.Told.{rowAnswer};
-ghost use Rattle.records.specs.Written.{opened, PushesRow, TurnsOver, ended, WritesRow};
+ghost use Rattle.records.specs.Written.{opened, TurnsOver, ended};
 use crate::answer::RowAnswer;
 use crate::record::Record;
 use number::Refusal;
@@ -61,21 +59,6 @@ pub fn push_record(out: &mut [u8], writing: Writing, head: Head, slot: Record) -
     push(out, writing, head, slot.fact())
 }
 
-// One pass over so many records of a row.
-pub fn push_row(row: &[Record], turns: usize, out: &mut [u8], head: Head, start: Writing) -> Writing
-    requires { ⌜ turns ≤ length (now row) ⌝ }
-    ensures { λ r. ⌜ PushesRow head (take turns (now (row .entry))) (now (out .entry)) start r (now (out .exit)) ⌝ }
-{
-    let mut writing = start;
-    let mut i = 0;
-    while i < turns {
-        let slot = row[i];
-        writing = push_record(out, writing, head, slot);
-        i += 1;
-    }
-    writing
-}
-
 // Between the two passes; nothing happens if the rules were refused.
 pub fn turn_over(out: &mut [u8], opening: Opening, first: Writing) -> Writing
     ensures { λ r. ⌜ TurnsOver opening (now (out .entry)) first r (now (out .exit)) ⌝ }
@@ -119,17 +102,4 @@ pub fn end_row(opening: Opening, last: Writing) -> RowAnswer
         return wrote(last.answer());
     }
     refused(opening.refusal)
-}
-
-// "and hands such a row back to be written".
-pub fn write_records(rules: &[u8], row: &[Record], out: &mut [u8]) -> RowAnswer
-    ensures { λ r. ⌜ WritesRow (now (rules .entry)) (now (row .entry)) (now (out .entry)) r (now (out .exit)) ⌝ }
-{
-    let opening = open_row(rules, row.len(), out.len());
-    let turns = opening.turns;
-    let head = opening.head;
-    let first = push_row(row, turns, out, head, opening.first);
-    let second = turn_over(out, opening, first);
-    let last = push_row(row, turns, out, head, second);
-    end_row(opening, last)
 }

@@ -1,27 +1,28 @@
 -- `dzy_reader_next` meets its contract: a walk of its MIR. The whole `&mut` goes on to `next`, at its own lifetimes, share and name, and is given up for good: what `next` says of the reader's last value is what is said of it here. What it yields is then shown.
-use Rattle.records.proofs.Names.{_≡_, refl, ℕ, List, [], _∷_, URA, named, Val, vptr, SProp, ent, emp, via, fst∗, id⊢, GName, Lft, Share, ftrue, flft, Memory, Routine, Heap, WpFn, Tables, Atoms, AllOutlive, Fun, fact, tables, sem, Given, Item, ‵, raw, _⊛_, ⋆, some, later, _$_, _∵_, !, qed, by, move, keep, use1, use2, split, join, pick, fsplit, fjoin, suffices, frame, await, done, look, init, forget, stop, hop, from, load, addr, and-then, no-more, assigns, land, returns, enter, alloc1, alloc0, params1, pass1, pass0, free1, free0, fmOf, RattleType, owns, Is, shows, RefT, MutRef, ptr-vals, mut-tells, Slot, plain, namedLft, peeks, heard, nothing, Contract, Triple, calls-at, ensured, lasts, cited, onEntry, tripleOf, says, Stays, walkOf, Walks, ends-at, walked}
+use Rattle.rows.proofs.Names.{_≡_, refl, ℕ, List, [], _∷_, URA, named, Val, vptr, SProp, ent, emp, via, fst∗, id⊢, GName, Lft, Share, ftrue, flft, Memory, Routine, Heap, WpFn, Tables, Atoms, AllOutlive, Fun, fact, tables, sem, Given, Item, ‵, raw, _⊛_, ⋆, some, later, _$_, _∵_, !, qed, by, move, keep, use1, use2, split, join, pick, fsplit, fjoin, suffices, frame, await, done, look, init, forget, stop, hop, from, load, addr, and-then, no-more, assigns, land, returns, enter, alloc1, alloc0, params1, pass1, pass0, free1, free0, fmOf, RattleType, owns, Is, shows, RefT, MutRef, ptr-vals, mut-tells, Slot, plain, namedLft, peeks, heard, nothing, Contract, Triple, calls-at, ensured, lasts, cited, onEntry, tripleOf, says, Stays, walkOf, Walks, ends-at, walked}
 use contract.Running.{tablesOf}
 use base.Fml.{fres}
 use denote.Triple.Walked.{gave-ref, goes-gave-ref}
-use Rattle.records.proofs.Closing.{close}
-use Rattle.records.proofs.Calling.{calls-to}
+use Rattle.rows.proofs.Closing.{close}
+use Rattle.rows.proofs.Calling.{calls-to}
 use denote.Enum.Laws as EL
 use denote.Struct.Laws as LL
-use Rattle.records.specs.Told.{Steps, yieldTold}
-use Rattle.records.specs.declared.reader.Reader.{Reader}
+use Rattle.records.specs.Told.{yieldTold}
+use Rattle.rows.specs.Stepping.{Steps}
+use Rattle.rows.specs.declared.reader.Reader.{Reader}
 use Rattle.records.specs.declared.step.Yield.{Yield}
 use Rattle.dzyunagor.specs.Shown.{shownYield}
 use Rattle.dzyunagor.specs.declared.shapes.DzyYield.{DzyYield}
 use Rattle.dzyunagor.proofs.OfRecords.{reader-stepped}
-use Rattle.records.proofs.reader.Reader as T
+use Rattle.rows.proofs.reader.Reader as T
 use Rattle.records.proofs.step.Yield as Y
 use Rattle.records.proofs.step.Yield.Laws as Y′
 use Rattle.dzyunagor.proofs.shapes.DzyYield as D
 use Rattle.dzyunagor.proofs.shapes.DzyYield.Laws as D′
-use Rattle.records.proofs.next as next
-use Rattle.records.proofs.next.Symbol as next-def
-use Rattle.records.proofs.next.Symbol.{name as #next}
-use Rattle.records.proofs.next.Met as next-thm
+use Rattle.rows.proofs.next as next
+use Rattle.rows.proofs.next.Symbol as next-def
+use Rattle.rows.proofs.next.Symbol.{name as #next}
+use Rattle.rows.proofs.next.Met as next-thm
 use Rattle.dzyunagor.proofs.show.show_yield as show
 use Rattle.dzyunagor.proofs.show.show_yield.Symbol as show-def
 use Rattle.dzyunagor.proofs.show.show_yield.Symbol.{name as #show}
@@ -121,5 +122,5 @@ unfolding code.routine tablesOf
 dzy-reader-next-spec 𝓤 H 𝓜 𝓖 𝓡 =
     close 𝓤 H 𝓜 𝓖 𝓡 face.ended stayed (face.clauses 𝓤 H (𝓖 .A) (𝓜 .mem) (𝓡 .run)) (λ W. (goes-gave-ref 𝓤 H (𝓖 .A) W 2 0 tt behind, tt)) code.env #face code.function (code.unfolded 𝓤 H 𝓜 𝓡)
     (λ W. walks 𝓤 H (𝓖 .A) W (𝓜 .mem) (𝓡 .run) (tablesOf 𝓤 H 𝓜 (tables 𝓤 H 𝓜 𝓡 code.env))
-    (cited 𝓤 H (Next 𝓤 H (𝓖 .A) (𝓜 .mem) (𝓡 .run)) 𝓜 𝓡 code.env #next next-def.routine code.calls-records·next (next-thm.met 𝓤 H 𝓜 𝓖 𝓡))
+    (cited 𝓤 H (Next 𝓤 H (𝓖 .A) (𝓜 .mem) (𝓡 .run)) 𝓜 𝓡 code.env #next next-def.routine code.calls-rows·next (next-thm.met 𝓤 H 𝓜 𝓖 𝓡))
     (cited 𝓤 H (Show 𝓤 H (𝓖 .A) (𝓜 .mem) (𝓡 .run)) 𝓜 𝓡 code.env #show show-def.routine code.calls-dzyunagor·show·show-yield (show-thm.met 𝓤 H 𝓜 𝓖 𝓡)))

@@ -1,5 +1,5 @@
 -- A local in a walk's context: one that holds a value, one that holds none, and that it dies at the end.
-use Rattle.records.proofs.Names.{ℕ, URA, fullShare, Ty, Val, Item, ‵, fat, froom, fdies}
+use Rattle.rows.proofs.Names.{ℕ, URA, fullShare, Ty, Val, Item, ‵, fat, froom, fdies}
 
 module _ {M : Type 1} {𝓤 : URA M} where
   abbrev pub Cell : Ty → ℕ → Val → Item 𝓤

@@ -2,7 +2,7 @@
 --     Kept         what the caller keeps while the slice is lent: the lender's part, and its own borrow, open
 --     lent, back   the slice goes out under a new name, and comes back at a list of the same length
 --     calls-lent   the whole call. `extra` is what else the callee asks, and `spare` what it hands back beside the lifetime
-use Rattle.records.proofs.Names.{_≡_, sym, ap, subst, ℕ, List, [], _∷_, length, URA, fullShare, Lifetime, named, Val, ent, sep, ex, Lft, GName, Share, Fml, fsep, flft, fdead, fobs, fauth, flent, fobor, Heap, Calls, Loops, Atoms, sem, Given, given, learn, Item, Seq, runs, lands, ‵, raw, _⊛_, some, later, _$_, _∵_, !, qed, move, drop, use1, use2, use3, split, pick, fsplit, fjoin, frame, await, done, lft-new, lft-end, Opds, FmC, RattleType, mem, RefT, sliceVal, MutSlice, Room, at-slice, finally, heres, codedHoleys, Held, row, opens-slice, closes-slice, pureI, pureL, Triple, calls-at, Ended, Clauses, closing, tripleOf}
+use Rattle.rows.proofs.Names.{_≡_, sym, ap, subst, ℕ, List, [], _∷_, length, URA, fullShare, Lifetime, named, Val, ent, sep, ex, Lft, GName, Share, Fml, fsep, flft, fdead, fobs, fauth, flent, fobor, Heap, Calls, Loops, Atoms, sem, Given, given, learn, Item, Seq, runs, lands, ‵, raw, _⊛_, some, later, _$_, _∵_, !, qed, move, drop, use1, use2, use3, split, pick, fsplit, fjoin, frame, await, done, lft-new, lft-end, Opds, FmC, RattleType, mem, RefT, sliceVal, MutSlice, Room, at-slice, finally, heres, codedHoleys, Held, row, opens-slice, closes-slice, pureI, pureL, Triple, calls-at, Ended, Clauses, closing, tripleOf}
 use base.Logic.{guard}
 use types.Kit.{Post, mean, updating, now as at-once, show}
 use types.SemTy.{cells, Arr}

@@ -5,18 +5,19 @@ use mathlib.Core.List.{List}
 use Rattle.number.specs.Answer.{Answer}
 use Rattle.number.specs.Answer.Answer.{gives, refuses}
 use Rattle.number.proofs.One.{one, undone, Same}
 use Rattle.records.specs.Reading.{Found, Stepped, readerStart, readerStep}
 use Rattle.records.specs.Reading.Found.{fact, done}
-use Rattle.records.specs.Told.{startTold, yieldTold, stepTold, Steps, Hands}
+use Rattle.records.specs.Told.{startTold, yieldTold, stepTold, Hands}
+use Rattle.rows.specs.Stepping.{Steps}
 use Rattle.records.specs.Written.{WritesRow}
 use Rattle.records.specs.declared.record.Record.{Record}
 use Rattle.records.specs.declared.step.Started.{Started}
 use Rattle.records.specs.declared.step.Started.the-variants.{At, Refused as RefusedStart}
 use Rattle.records.specs.declared.step.Yield.{Yield}
 use Rattle.records.specs.declared.step.Yield.the-variants.{Fact, Refused as RefusedYield, Done}
 use Rattle.records.specs.declared.step.Step.{Step}
-use Rattle.records.specs.declared.reader.Reader.{Reader}
+use Rattle.rows.specs.declared.reader.Reader.{Reader}
 use Rattle.records.specs.declared.answer.RowAnswer.{RowAnswer}
 
 start-back : Answer ℕ → Started
 start-back (gives at) = At at

@@ -1,29 +1,29 @@
 -- `next` meets its contract: a walk of its MIR. The borrow is opened, the slice and the number go to `step_at`, the place that it gave is stored, and the borrow is closed at the reader with that place.
 -- The struct is Copy: what it owns is had twice, one copy is kept for the exit, and of the other what src owns goes to the callee.
-use Rattle.records.proofs.Names.{_≡_, refl, ap, ℕ, _<_, _^_, List, [], _∷_, length, URA, fullShare, named, erased, w64, Val, vint, vptr, vstruct, vnil, vcons, SProp, ent, emp, via, fst∗, id⊢, GName, Lft, Share, ftrue, fat, flft, fobs, fbor, Memory, Routine, Heap, Calls, Loops, WpFn, Tables, Atoms, sem, AllOutlive, Fun, Given, ‵, raw, _⊛_, ⋆, given, _$_, _∵_, !, qed, by, move, keep, drop, use1, use2, split, join, learn, rewrite, fsplit, fsplit3, fjoin, fjoin3, feqI, suffices, frame, done, whole, sub, look-in, store-in, look, init, forget, stop, hop, fld, from, load, of-opd, and-then, no-more, assigns, land, returns, enter, alloc1, alloc0, params1, pass1, pass0, free1, free0, Body, FmC, fmOf, RattleType, owns, tables, mem, cellAt, Is, shows, uint-makes, u8, usize, RefT, NamedLft, MutRef, ptr-vals, mut-tells, now, Slot, plain, namedLft, sliceVal, ShrSlice, only, opens, closes, owned, peeks, nothing, all-own, ownAt, rest, own-open, own-out, own-put, spelt, Contract, Triple, cited, onEntry, tripleOf, says, Stays, stay-ref, walkOf, goes-ref, Walks, ends-at, walked}
+use Rattle.rows.proofs.Names.{_≡_, refl, ap, ℕ, _<_, _^_, List, [], _∷_, length, URA, fullShare, named, erased, w64, Val, vint, vptr, vstruct, vnil, vcons, SProp, ent, emp, via, fst∗, id⊢, GName, Lft, Share, ftrue, fat, flft, fobs, fbor, Memory, Routine, Heap, Calls, Loops, WpFn, Tables, Atoms, sem, AllOutlive, Fun, Given, ‵, raw, _⊛_, ⋆, given, _$_, _∵_, !, qed, by, move, keep, drop, use1, use2, split, join, learn, rewrite, fsplit, fsplit3, fjoin, fjoin3, feqI, suffices, frame, done, whole, sub, look-in, store-in, look, init, forget, stop, hop, fld, from, load, of-opd, and-then, no-more, assigns, land, returns, enter, alloc1, alloc0, params1, pass1, pass0, free1, free0, Body, FmC, fmOf, RattleType, owns, tables, mem, cellAt, Is, shows, uint-makes, u8, usize, RefT, NamedLft, MutRef, ptr-vals, mut-tells, now, Slot, plain, namedLft, sliceVal, ShrSlice, only, opens, closes, owned, peeks, nothing, all-own, ownAt, rest, own-open, own-out, own-put, spelt, Contract, Triple, cited, onEntry, tripleOf, says, Stays, stay-ref, walkOf, goes-ref, Walks, ends-at, walked}
 use contract.Running.{tablesOf}
-use Rattle.records.proofs.Closing.{close}
-use Rattle.records.proofs.Calling.{calls-to}
+use Rattle.rows.proofs.Closing.{close}
+use Rattle.rows.proofs.Calling.{calls-to}
 use denote.Enum.Laws as EL
 use denote.Struct.Laws as LL
 use Rattle.records.specs.Reading.{Stepped, readerStep}
 use Rattle.records.specs.Told.{stepTold}
-use Rattle.records.specs.declared.reader.Reader.{Reader}
+use Rattle.rows.specs.declared.reader.Reader.{Reader}
 use Rattle.records.specs.declared.step.Step.{Step}
-use Rattle.records.proofs.reader.Reader as T
-use Rattle.records.proofs.reader.Reader.Laws as T′
+use Rattle.rows.proofs.reader.Reader as T
+use Rattle.rows.proofs.reader.Reader.Laws as T′
 use Rattle.records.proofs.step.Step as S
 use Rattle.records.proofs.step.Step.Laws as S′
 use Rattle.records.proofs.step.Yield as Y
 use Rattle.records.proofs.step.Yield.Laws as Y′
-use Rattle.records.proofs.step.step_at as step-at
-use Rattle.records.proofs.step.step_at.Symbol as step-at-def
-use Rattle.records.proofs.step.step_at.Symbol.{name as #step-at}
-use Rattle.records.proofs.step.step_at.Met as step-at-thm
-use Rattle.records.proofs.reader.next.Key.{name as #next}
-use Rattle.records.proofs.reader.next as next
-use Rattle.records.proofs.reader.next.Statement as stated
-use Rattle.records.proofs.reader.next.Code as code
+use Rattle.records.proofs.step_at as step-at
+use Rattle.records.proofs.step_at.Symbol as step-at-def
+use Rattle.records.proofs.step_at.Symbol.{name as #step-at}
+use Rattle.records.proofs.step_at.Met as step-at-thm
+use Rattle.rows.proofs.reader.next.Key.{name as #next}
+use Rattle.rows.proofs.reader.next as next
+use Rattle.rows.proofs.reader.next.Statement as stated
+use Rattle.rows.proofs.reader.next.Code as code
 
 -- `Reader<'a>`, as the referent's place in the signature
 abbrev behind : Slot 2
@@ -136,4 +136,4 @@ unfolding code.routine tablesOf
 next-spec 𝓤 H 𝓜 𝓖 𝓡 =
     close 𝓤 H 𝓜 𝓖 𝓡 next.ended stayed (next.clauses 𝓤 H (𝓖 .A) (𝓜 .mem) (𝓡 .run)) (λ W. (goes-ref 𝓤 H (𝓖 .A) W 2 0 tt behind, tt)) code.env #next code.function (code.unfolded 𝓤 H 𝓜 𝓡)
     (λ W. walks 𝓤 H (𝓖 .A) W (𝓜 .mem) (𝓡 .run) (tablesOf 𝓤 H 𝓜 (tables 𝓤 H 𝓜 𝓡 code.env))
-    (cited 𝓤 H (StepAt 𝓤 H (𝓖 .A) (𝓜 .mem) (𝓡 .run)) 𝓜 𝓡 code.env #step-at step-at-def.routine code.calls-records·step·step-at (step-at-thm.met 𝓤 H 𝓜 𝓖 𝓡)))
+    (cited 𝓤 H (StepAt 𝓤 H (𝓖 .A) (𝓜 .mem) (𝓡 .run)) 𝓜 𝓡 code.env #step-at step-at-def.routine code.calls-records·step-at (step-at-thm.met 𝓤 H 𝓜 𝓖 𝓡)))

@@ -1,5 +1,5 @@
 -- A call of a function that has no `&mut` parameter, as one step of a walk: what it asks stands at the head of the context, and afterwards its result and the tokens stand there, with the fact that it ensures in hand.
-use Rattle.records.proofs.Names.{List, [], _∷_, URA, Val, ent, id⊢, exE, snd∗, via, Heap, Calls, Loops, Atoms, sem, fact, Given, Item, Seq, runs, lands, ‵, raw, _⊛_, some, later, _$_, move, use1, split, pick, await, Opds, FmC, Triple, calls-at, Ended, Clauses, ensured, lasts, Lasts, closing, tripleOf, heard}
+use Rattle.rows.proofs.Names.{List, [], _∷_, URA, Val, ent, id⊢, exE, snd∗, via, Heap, Calls, Loops, Atoms, sem, fact, Given, Item, Seq, runs, lands, ‵, raw, _⊛_, some, later, _$_, move, use1, split, pick, await, Opds, FmC, Triple, calls-at, Ended, Clauses, ensured, lasts, Lasts, closing, tripleOf, heard}
 use prog.Wp.{Env}
 use prog.Routine.{Name}
 use types.Kit.{Post}

@@ -1,7 +1,7 @@
 -- `push_row` meets its contract: a walk of its MIR, with one loop. The row's shared borrow is looked into once, before the loop, and shut once, after it.
 -- The loop's invariant: what the whole pass comes to is what the records that are left come to from here.
 -- Each turn reads one record, and lends the output to `push_record`, which hands it back.
-use Rattle.records.proofs.Names.{_≡_, refl, sym, ap, subst, ℕ, zero, suc, _+_, _≤_, _<_, _^_, arith, Bool, List, [], _∷_, lit<, length, getD, Nat·lt-wfRel, URA, fullShare, Ty, named, erased, w8, w64, tyInt, tyPtr, tyBool, tyRef, Val, vint, vptr, vbool, SProp, ent, ex, id⊢, Lft, Share, GName, Fml, ftrue, fat, flft, fobor, fshr-bor, Memory, Routine, Heap, Env, Tables, WpFn, Atoms, Fun, fact, tables, Given, Item, Seq, Go, runs, atRet, anyQ, ‵, raw, _⊛_, ⋆, some, later, _$_, _∵_, !, qed, by, move, keep, drop, use1, split, join, pick, rewrite, fsplit, fjoin, feqL, suffices, frame, await, done, agg, whole, sub, look-in, look, look-raw, init, store, forget, stop, hop, fld, from, load, lit, addr, of-opd, bin, and-then, no-more, assigns, assigns-last, blocks, first, stays, leaves-loop, land, returns, enter, alloc1, alloc0, params1, pass1, pass0, free1, free0, exec, loops, again, Below, fmOf, RattleType, owns, pointee, shares, Is, shows, uint-makes, uint-vals, uint-tells, u8, usize, RefT, now, plain, sliceVal, sliceTy, MutSlice, ShrSlice, Room, finally, slice-vals, shr-slice-tells, shr-slice-lawful, shr-slice-copy, mut-slice-tells, place-is, row, elem-out, elem-back, looks-slice, shuts-slice, only, owned, peeks, heard, nothing, Contract, Triple, cited, onEntry, tripleOf, lasts, Lasts, says, needs, Stays, stay-none, stay-slice, stay-none-slice, walkOf, goes-none, goes-slice, goes-none-slice, Walks, ends-at, walked, yes}
+use Rattle.rows.proofs.Names.{_≡_, refl, sym, ap, subst, ℕ, zero, suc, _+_, _≤_, _<_, _^_, arith, Bool, List, [], _∷_, lit<, length, getD, Nat·lt-wfRel, URA, fullShare, Ty, named, erased, w8, w64, tyInt, tyPtr, tyBool, tyRef, Val, vint, vptr, vbool, SProp, ent, ex, id⊢, Lft, Share, GName, Fml, ftrue, fat, flft, fobor, fshr-bor, Memory, Routine, Heap, Env, Tables, WpFn, Atoms, Fun, fact, tables, Given, Item, Seq, Go, runs, atRet, anyQ, ‵, raw, _⊛_, ⋆, some, later, _$_, _∵_, !, qed, by, move, keep, drop, use1, split, join, pick, rewrite, fsplit, fjoin, feqL, suffices, frame, await, done, agg, whole, sub, look-in, look, look-raw, init, store, forget, stop, hop, fld, from, load, lit, addr, of-opd, bin, and-then, no-more, assigns, assigns-last, blocks, first, stays, leaves-loop, land, returns, enter, alloc1, alloc0, params1, pass1, pass0, free1, free0, exec, loops, again, Below, fmOf, RattleType, owns, pointee, shares, Is, shows, uint-makes, uint-vals, uint-tells, u8, usize, RefT, now, plain, sliceVal, sliceTy, MutSlice, ShrSlice, Room, finally, slice-vals, shr-slice-tells, shr-slice-lawful, shr-slice-copy, mut-slice-tells, place-is, row, elem-out, elem-back, looks-slice, shuts-slice, only, owned, peeks, heard, nothing, Contract, Triple, cited, onEntry, tripleOf, lasts, Lasts, says, needs, Stays, stay-none, stay-slice, stay-none-slice, walkOf, goes-none, goes-slice, goes-none-slice, Walks, ends-at, walked, yes}
 use contract.Running.{tablesOf}
 use prog.Wp.{afterSeq, afterBlock, afterTurn, atReturn, Wp, Out}
 use mir.Syntax.{imm, mut}
@@ -11,11 +11,11 @@ use borrow.Author.Tests.{lt-ltb, le-ltb}
 use base.Logic.{guard}
 use types.Kit.{updating, now as at-once, show, check}
 use types.Share.{arr-parts}
-use Rattle.records.proofs.Closing.{close}
-use Rattle.records.proofs.Lending.{slice, calls-lent}
-use Rattle.records.proofs.Locals.{Cell, Hole, Dies}
-use Rattle.records.proofs.Turns.{slot-fits, next-fits, one-on, sooner}
+use Rattle.rows.proofs.Closing.{close}
+use Rattle.rows.proofs.Lending.{slice, calls-lent}
+use Rattle.rows.proofs.Locals.{Cell, Hole, Dies}
+use Rattle.rows.proofs.Turns.{slot-fits, next-fits, one-on, sooner}
 use Rattle.records.proofs.Passes.{Passing, pass-starts, pass-on, pass-ends}
 use denote.Struct.Laws as LL
 use Rattle.rules.specs.declared.head.Head.{Head}
 use Rattle.rules.proofs.head.Head as He
@@ -24,19 +24,19 @@ use Rattle.writer.specs.Pushed.{Pushes}
 use Rattle.writer.specs.declared.writing.Writing.{Writing}
 use Rattle.writer.proofs.writing.Writing as Wr
 use Rattle.writer.proofs.writing.Writing.Laws as Wr′
 use Rattle.records.specs.Rows.{factOf}
 use Rattle.records.specs.Written.{PushesRow}
 use Rattle.records.specs.declared.record.Record.{Record}
 use Rattle.records.proofs.record.Record as Rec
 use Rattle.records.proofs.record.Record.Laws as Rec′
-use Rattle.records.proofs.write.push_record as push
-use Rattle.records.proofs.write.push_record.Symbol as push-def
-use Rattle.records.proofs.write.push_record.Symbol.{name as #push-record}
-use Rattle.records.proofs.write.push_record.Met as push-thm
-use Rattle.records.proofs.write.push_row.Key.{name as #push-row}
-use Rattle.records.proofs.write.push_row as push-row
-use Rattle.records.proofs.write.push_row.Statement as stated
-use Rattle.records.proofs.write.push_row.Code as code
+use Rattle.records.proofs.push_record as push
+use Rattle.records.proofs.push_record.Symbol as push-def
+use Rattle.records.proofs.push_record.Symbol.{name as #push-record}
+use Rattle.records.proofs.push_record.Met as push-thm
+use Rattle.rows.proofs.row.push_row.Key.{name as #push-row}
+use Rattle.rows.proofs.row.push_row as push-row
+use Rattle.rows.proofs.row.push_row.Statement as stated
+use Rattle.rows.proofs.row.push_row.Code as code
 
 -- the element's type
 abbrev R : RattleType
@@ -273,4 +273,4 @@ push-row-spec 𝓤 H 𝓜 𝓖 𝓡 =
     (λ W. (goes-none-slice 𝓤 H (𝓖 .A) W 2 (0 ∷ []) tt (plain (λ _. R)) yes, (goes-none 𝓤 H (𝓖 .A) W 2 (λ _. usize) yes (λ κs x f. refl), (goes-slice 𝓤 H (𝓖 .A) W 2 1 tt (plain (λ _. u8)), (goes-none 𝓤 H (𝓖 .A) W 2 (λ _. He.the-row) yes (λ κs x f. refl), (goes-none 𝓤 H (𝓖 .A) W 2 (λ _. Wr.the-row) yes (λ κs x f. refl), tt))))))
     code.env #push-row code.function (code.unfolded 𝓤 H 𝓜 𝓡)
     (λ W. walks 𝓤 H (𝓖 .A) W (𝓜 .mem) (𝓡 .run) (tablesOf 𝓤 H 𝓜 (tables 𝓤 H 𝓜 𝓡 code.env))
-    (cited 𝓤 H (Push 𝓤 H (𝓖 .A) (𝓜 .mem) (𝓡 .run)) 𝓜 𝓡 code.env #push-record push-def.routine code.calls-records·write·push-record (push-thm.met 𝓤 H 𝓜 𝓖 𝓡)))
+    (cited 𝓤 H (Push 𝓤 H (𝓖 .A) (𝓜 .mem) (𝓡 .run)) 𝓜 𝓡 code.env #push-record push-def.routine code.calls-records·push-record (push-thm.met 𝓤 H 𝓜 𝓖 𝓡)))

@@ -1,43 +1,43 @@
 -- `hand_records` meets its contract: a walk of its MIR, with one loop. The row's borrow is opened once, before the loop, and closed once, after it.
 -- The loop's invariant: the row as it is, filled with the records that are left, is the row as it was, filled with all of them.
 -- Each turn hands `take_at` a copy of what the bundle's slice owns, and puts the record that it gave into the row's slot.
-use Rattle.records.proofs.Names.{_≡_, refl, sym, ap, subst, _∙_, ℕ, zero, suc, _+_, _<_, _^_, arith, Bool, List, [], _∷_, lit<, length, set, length-set, Nat·lt-wfRel, URA, fullShare, Ty, named, w8, w64, tyInt, tyPtr, tyBool, tyRef, Val, vint, vptr, vbool, SProp, ent, emp, via, fst∗, id⊢, Lft, Share, GName, Fml, ftrue, fat, flft, fobs, fauth, fbor, fobor, Memory, Routine, Heap, Env, WpFn, Tables, Atoms, Fun, tables, Given, Item, Seq, Go, runs, atRet, anyQ, ‵, raw, _⊛_, ⋆, given, _$_, _∵_, !, qed, by, move, keep, use1, use2, use3, split, join, learn, rewrite, fsplit, fjoin, suffices, frame, done, whole, sub, look-in, look, init, store, store-raw, forget, stop, hop, fld, from, load, lit, of-opd, bin, and-then, no-more, assigns, assigns-last, blocks, first, stays, leaves-loop, land, returns, enter, alloc1, alloc0, params1, pass1, pass0, free1, free0, exec, loops, again, Below, fmOf, RattleType, owns, pointee, pureI, Is, shows, uint-makes, u8, usize, RefT, now, plain, sliceVal, sliceTy, MutSlice, ShrSlice, Room, at-slice, heres, codedHoleys, slice-vals, shr-slice-tells, shr-slice-lawful, shr-slice-copy, mut-slice-tells, Held, place-is, row, elem-out, elem-put, opens-slice, closes-slice, only, owned, peeks, nothing, all-own, ownAt, rest, own-open, own-out, Contract, Triple, cited, onEntry, tripleOf, says, Stays, stay-slice, stay-none-slice, walkOf, goes-slice, goes-none-slice, Walks, ends-at, walked, yes}
+use Rattle.rows.proofs.Names.{_≡_, refl, sym, ap, subst, _∙_, ℕ, zero, suc, _+_, _<_, _^_, arith, Bool, List, [], _∷_, lit<, length, set, length-set, Nat·lt-wfRel, URA, fullShare, Ty, named, w8, w64, tyInt, tyPtr, tyBool, tyRef, Val, vint, vptr, vbool, SProp, ent, emp, via, fst∗, id⊢, Lft, Share, GName, Fml, ftrue, fat, flft, fobs, fauth, fbor, fobor, Memory, Routine, Heap, Env, WpFn, Tables, Atoms, Fun, tables, Given, Item, Seq, Go, runs, atRet, anyQ, ‵, raw, _⊛_, ⋆, given, _$_, _∵_, !, qed, by, move, keep, use1, use2, use3, split, join, learn, rewrite, fsplit, fjoin, suffices, frame, done, whole, sub, look-in, look, init, store, store-raw, forget, stop, hop, fld, from, load, lit, of-opd, bin, and-then, no-more, assigns, assigns-last, blocks, first, stays, leaves-loop, land, returns, enter, alloc1, alloc0, params1, pass1, pass0, free1, free0, exec, loops, again, Below, fmOf, RattleType, owns, pointee, pureI, Is, shows, uint-makes, u8, usize, RefT, now, plain, sliceVal, sliceTy, MutSlice, ShrSlice, Room, at-slice, heres, codedHoleys, slice-vals, shr-slice-tells, shr-slice-lawful, shr-slice-copy, mut-slice-tells, Held, place-is, row, elem-out, elem-put, opens-slice, closes-slice, only, owned, peeks, nothing, all-own, ownAt, rest, own-open, own-out, Contract, Triple, cited, onEntry, tripleOf, says, Stays, stay-slice, stay-none-slice, walkOf, goes-slice, goes-none-slice, Walks, ends-at, walked, yes}
 use contract.Running.{tablesOf}
 use prog.Wp.{afterSeq, afterBlock, afterTurn, atReturn, Wp, Out}
 use mir.Syntax.{imm, mut}
 use mathlib.Core.WellFounded.{InvImage·wf}
 use borrow.Author.Tests.{lt-ltb, le-ltb}
-use Rattle.records.proofs.Closing.{close}
-use Rattle.records.proofs.Calling.{calls-to}
-use Rattle.records.proofs.Locals.{Cell, Hole, Dies}
-use Rattle.records.proofs.Turns.{slot-fits, next-fits, one-on, sooner}
+use Rattle.rows.proofs.Closing.{close}
+use Rattle.rows.proofs.Calling.{calls-to}
+use Rattle.rows.proofs.Locals.{Cell, Hole, Dies}
+use Rattle.rows.proofs.Turns.{slot-fits, next-fits, one-on, sooner}
 use Rattle.records.proofs.Filling.{filled, one-slot, no-slot, hand-fits, hands}
 use denote.Struct.Laws as LL
 use Rattle.records.specs.Rows.{handOut, takeAt}
 use Rattle.records.specs.Told.{decided}
 use Rattle.records.specs.declared.record.Record.{Record}
 use Rattle.records.specs.declared.hand.Hand.{Hand}
 use Rattle.records.specs.declared.hand.Taken.{Taken}
 use Rattle.records.proofs.record.Record as Rec
 use Rattle.records.proofs.record.Record.Laws as Rec′
 use Rattle.records.proofs.hand.Hand as Hn
 use Rattle.records.proofs.hand.Hand.Laws as Hn′
 use Rattle.records.proofs.answer.RowAnswer as Hd
 use Rattle.records.proofs.answer.RowAnswer.Laws as Hd′
 use Rattle.records.proofs.hand.Taken as Tk
 use Rattle.records.proofs.hand.Taken.Laws as Tk′
-use Rattle.records.proofs.hand.decide as decide
-use Rattle.records.proofs.hand.decide.Symbol as decide-def
-use Rattle.records.proofs.hand.decide.Symbol.{name as #decide}
-use Rattle.records.proofs.hand.decide.Met as decide-thm
-use Rattle.records.proofs.hand.take_at as take
-use Rattle.records.proofs.hand.take_at.Symbol as take-def
-use Rattle.records.proofs.hand.take_at.Symbol.{name as #take-at}
-use Rattle.records.proofs.hand.take_at.Met as take-thm
-use Rattle.records.proofs.hand.hand_records.Key.{name as #hand-records}
-use Rattle.records.proofs.hand.hand_records as hand-records
-use Rattle.records.proofs.hand.hand_records.Statement as stated
-use Rattle.records.proofs.hand.hand_records.Code as code
+use Rattle.records.proofs.decide as decide
+use Rattle.records.proofs.decide.Symbol as decide-def
+use Rattle.records.proofs.decide.Symbol.{name as #decide}
+use Rattle.records.proofs.decide.Met as decide-thm
+use Rattle.records.proofs.take_at as take
+use Rattle.records.proofs.take_at.Symbol as take-def
+use Rattle.records.proofs.take_at.Symbol.{name as #take-at}
+use Rattle.records.proofs.take_at.Met as take-thm
+use Rattle.rows.proofs.handing.hand_records.Key.{name as #hand-records}
+use Rattle.rows.proofs.handing.hand_records as hand-records
+use Rattle.rows.proofs.handing.hand_records.Statement as stated
+use Rattle.rows.proofs.handing.hand_records.Code as code
 
 -- the element's type
 abbrev R : RattleType
@@ -286,5 +286,5 @@ hand-records-spec 𝓤 H 𝓜 𝓖 𝓡 =
     (λ W. (goes-none-slice 𝓤 H (𝓖 .A) W 3 (0 ∷ []) tt (plain (λ _. u8)) yes, (goes-none-slice 𝓤 H (𝓖 .A) W 3 (1 ∷ []) tt (plain (λ _. u8)) yes, (goes-slice 𝓤 H (𝓖 .A) W 3 2 tt (plain (λ _. R)), tt))))
     code.env #hand-records code.function (code.unfolded 𝓤 H 𝓜 𝓡)
     (λ W. walks 𝓤 H (𝓖 .A) W (𝓜 .mem) (𝓡 .run) (tablesOf 𝓤 H 𝓜 (tables 𝓤 H 𝓜 𝓡 code.env))
-    (cited 𝓤 H (Decide 𝓤 H (𝓖 .A) (𝓜 .mem) (𝓡 .run)) 𝓜 𝓡 code.env #decide decide-def.routine code.calls-records·hand·decide (decide-thm.met 𝓤 H 𝓜 𝓖 𝓡))
-    (cited 𝓤 H (TakeAt 𝓤 H (𝓖 .A) (𝓜 .mem) (𝓡 .run)) 𝓜 𝓡 code.env #take-at take-def.routine code.calls-records·hand·take-at (take-thm.met 𝓤 H 𝓜 𝓖 𝓡)))
+    (cited 𝓤 H (Decide 𝓤 H (𝓖 .A) (𝓜 .mem) (𝓡 .run)) 𝓜 𝓡 code.env #decide decide-def.routine code.calls-records·decide (decide-thm.met 𝓤 H 𝓜 𝓖 𝓡))
+    (cited 𝓤 H (TakeAt 𝓤 H (𝓖 .A) (𝓜 .mem) (𝓡 .run)) 𝓜 𝓡 code.env #take-at take-def.routine code.calls-records·take-at (take-thm.met 𝓤 H 𝓜 𝓖 𝓡)))

@@ -1,5 +1,5 @@
 -- The last lines of every walk, said once: from a walk over any tables to the function's own theorem.
-use Rattle.records.proofs.Names.{URA, Heap, Model, GhostRules, Running, Given, Fn, Name, Ended, Stays, Clauses, AllGo, Walks, WpFn, Closed, Meets, closing, entered, tripleOf, walk-meets, WpFn-mono, tables, givenOf}
+use Rattle.rows.proofs.Names.{URA, Heap, Model, GhostRules, Running, Given, Fn, Name, Ended, Stays, Clauses, AllGo, Walks, WpFn, Closed, Meets, closing, entered, tripleOf, walk-meets, WpFn-mono, tables, givenOf}
 use contract.Running.{tablesOf}
 use prog.Routine.{Env}
 

@@ -1,15 +1,15 @@
 -- `write_records` meets its contract: a walk of its MIR, five calls in a row. The output is lent three times, and comes back each time at what the callee left.
 -- All that the proof knows of the callees is that each meets its contract; `Passes.writes` puts what they say together.
-use Rattle.records.proofs.Names.{_≡_, refl, sym, ap, subst, _∙_, ℕ, _≤_, _<_, _^_, List, [], _∷_, length, URA, fullShare, Ty, named, erased, w8, w64, tyInt, tyRef, Val, vint, SProp, ent, ex, emp, via, fst∗, id⊢, Lft, Share, GName, Fml, ftrue, fat, flft, Memory, Routine, Heap, Tables, WpFn, Atoms, sem, Fun, fact, tables, Given, ‵, raw, _⊛_, ⋆, some, later, _$_, _∵_, !, qed, by, move, keep, drop, use1, use2, split, join, pick, rewrite, fsplit, fjoin, feqL, suffices, frame, await, done, agg, whole, sub, look-in, look, init, forget, stop, hop, fld, from, load, addr, of-opd, and-then, no-more, assigns, land, returns, enter, alloc1, alloc0, params1, pass1, pass0, free1, free0, fmOf, RattleType, owns, Is, shows, uint-makes, u8, usize, RefT, now, plain, sliceVal, sliceTy, MutSlice, ShrSlice, Room, finally, slice-vals, shr-slice-tells, shr-slice-lawful, shr-slice-copy, mut-slice-tells, only, owned, peeks, heard, nothing, Contract, Triple, cited, onEntry, tripleOf, lasts, Lasts, says, Stays, stay-slice, stay-none-slice, walkOf, goes-slice, goes-none-slice, Walks, ends-at, walked, yes}
+use Rattle.rows.proofs.Names.{_≡_, refl, sym, ap, subst, _∙_, ℕ, _≤_, _<_, _^_, List, [], _∷_, length, URA, fullShare, Ty, named, erased, w8, w64, tyInt, tyRef, Val, vint, SProp, ent, ex, emp, via, fst∗, id⊢, Lft, Share, GName, Fml, ftrue, fat, flft, Memory, Routine, Heap, Tables, WpFn, Atoms, sem, Fun, fact, tables, Given, ‵, raw, _⊛_, ⋆, some, later, _$_, _∵_, !, qed, by, move, keep, drop, use1, use2, split, join, pick, rewrite, fsplit, fjoin, feqL, suffices, frame, await, done, agg, whole, sub, look-in, look, init, forget, stop, hop, fld, from, load, addr, of-opd, and-then, no-more, assigns, land, returns, enter, alloc1, alloc0, params1, pass1, pass0, free1, free0, fmOf, RattleType, owns, Is, shows, uint-makes, u8, usize, RefT, now, plain, sliceVal, sliceTy, MutSlice, ShrSlice, Room, finally, slice-vals, shr-slice-tells, shr-slice-lawful, shr-slice-copy, mut-slice-tells, only, owned, peeks, heard, nothing, Contract, Triple, cited, onEntry, tripleOf, lasts, Lasts, says, Stays, stay-slice, stay-none-slice, walkOf, goes-slice, goes-none-slice, Walks, ends-at, walked, yes}
 use contract.Running.{tablesOf}
 use mir.Syntax.{mut}
 use lib.ListN.{take}
 use base.Logic.{guard}
 use types.Kit.{updating, now as at-once, show, check}
-use Rattle.records.proofs.Closing.{close}
-use Rattle.records.proofs.Calling.{calls-to}
-use Rattle.records.proofs.Lending.{slice, calls-lent}
+use Rattle.rows.proofs.Closing.{close}
+use Rattle.rows.proofs.Calling.{calls-to}
+use Rattle.rows.proofs.Lending.{slice, calls-lent}
 use Rattle.records.proofs.Passes.{turns-within, writes}
 use denote.Struct.Laws as LL
 use Rattle.rules.specs.declared.head.Head.{Head}
 use Rattle.rules.proofs.head.Head as He
@@ -17,35 +17,35 @@ use Rattle.rules.proofs.head.Head.Laws as He′
 use Rattle.writer.specs.declared.writing.Writing.{Writing}
 use Rattle.writer.proofs.writing.Writing as Wr
 use Rattle.writer.proofs.writing.Writing.Laws as Wr′
 use Rattle.records.specs.Written.{opened, PushesRow, TurnsOver, ended, WritesRow}
 use Rattle.records.specs.declared.record.Record.{Record}
 use Rattle.records.specs.declared.write.Opening.{Opening}
 use Rattle.records.specs.declared.answer.RowAnswer.{RowAnswer}
 use Rattle.records.proofs.record.Record as Rec
 use Rattle.records.proofs.write.Opening as Op
 use Rattle.records.proofs.write.Opening.Laws as Op′
 use Rattle.records.proofs.answer.RowAnswer as Wo
 use Rattle.records.proofs.answer.RowAnswer.Laws as Wo′
-use Rattle.records.proofs.write.open_row as open-row
-use Rattle.records.proofs.write.open_row.Symbol as open-row-def
-use Rattle.records.proofs.write.open_row.Symbol.{name as #open-row}
-use Rattle.records.proofs.write.open_row.Met as open-row-thm
-use Rattle.records.proofs.write.push_row as push-row
-use Rattle.records.proofs.write.push_row.Symbol as push-row-def
-use Rattle.records.proofs.write.push_row.Symbol.{name as #push-row}
-use Rattle.records.proofs.write.push_row.Met as push-row-thm
-use Rattle.records.proofs.write.turn_over as turn-over
-use Rattle.records.proofs.write.turn_over.Symbol as turn-over-def
-use Rattle.records.proofs.write.turn_over.Symbol.{name as #turn-over}
-use Rattle.records.proofs.write.turn_over.Met as turn-over-thm
-use Rattle.records.proofs.write.end_row as end-row
-use Rattle.records.proofs.write.end_row.Symbol as end-row-def
-use Rattle.records.proofs.write.end_row.Symbol.{name as #end-row}
-use Rattle.records.proofs.write.end_row.Met as end-row-thm
-use Rattle.records.proofs.write.write_records.Key.{name as #write-records}
-use Rattle.records.proofs.write.write_records as write-records
-use Rattle.records.proofs.write.write_records.Statement as stated
-use Rattle.records.proofs.write.write_records.Code as code
+use Rattle.records.proofs.open_row as open-row
+use Rattle.records.proofs.open_row.Symbol as open-row-def
+use Rattle.records.proofs.open_row.Symbol.{name as #open-row}
+use Rattle.records.proofs.open_row.Met as open-row-thm
+use Rattle.rows.proofs.row.push_row as push-row
+use Rattle.rows.proofs.row.push_row.Symbol as push-row-def
+use Rattle.rows.proofs.row.push_row.Symbol.{name as #push-row}
+use Rattle.rows.proofs.row.push_row.Met as push-row-thm
+use Rattle.records.proofs.turn_over as turn-over
+use Rattle.records.proofs.turn_over.Symbol as turn-over-def
+use Rattle.records.proofs.turn_over.Symbol.{name as #turn-over}
+use Rattle.records.proofs.turn_over.Met as turn-over-thm
+use Rattle.records.proofs.end_row as end-row
+use Rattle.records.proofs.end_row.Symbol as end-row-def
+use Rattle.records.proofs.end_row.Symbol.{name as #end-row}
+use Rattle.records.proofs.end_row.Met as end-row-thm
+use Rattle.rows.proofs.row.write_records.Key.{name as #write-records}
+use Rattle.rows.proofs.row.write_records as write-records
+use Rattle.rows.proofs.row.write_records.Statement as stated
+use Rattle.rows.proofs.row.write_records.Code as code
 
 -- the element's type
 abbrev R : RattleType
@@ -272,7 +272,7 @@ write-records-spec 𝓤 H 𝓜 𝓖 𝓡 =
     (λ W. (goes-none-slice 𝓤 H (𝓖 .A) W 3 (0 ∷ []) tt (plain (λ _. u8)) yes, (goes-none-slice 𝓤 H (𝓖 .A) W 3 (1 ∷ []) tt (plain (λ _. R)) yes, (goes-slice 𝓤 H (𝓖 .A) W 3 2 tt (plain (λ _. u8)), tt))))
     code.env #write-records code.function (code.unfolded 𝓤 H 𝓜 𝓡)
     (λ W. walks 𝓤 H (𝓖 .A) W (𝓜 .mem) (𝓡 .run) (tablesOf 𝓤 H 𝓜 (tables 𝓤 H 𝓜 𝓡 code.env))
-    (cited 𝓤 H (OpenRow 𝓤 H (𝓖 .A) (𝓜 .mem) (𝓡 .run)) 𝓜 𝓡 code.env #open-row open-row-def.routine code.calls-records·write·open-row (open-row-thm.met 𝓤 H 𝓜 𝓖 𝓡))
-    (cited 𝓤 H (PushRow 𝓤 H (𝓖 .A) (𝓜 .mem) (𝓡 .run)) 𝓜 𝓡 code.env #push-row push-row-def.routine code.calls-records·write·push-row (push-row-thm.met 𝓤 H 𝓜 𝓖 𝓡))
-    (cited 𝓤 H (TurnOver 𝓤 H (𝓖 .A) (𝓜 .mem) (𝓡 .run)) 𝓜 𝓡 code.env #turn-over turn-over-def.routine code.calls-records·write·turn-over (turn-over-thm.met 𝓤 H 𝓜 𝓖 𝓡))
-    (cited 𝓤 H (EndRow 𝓤 H (𝓖 .A) (𝓜 .mem) (𝓡 .run)) 𝓜 𝓡 code.env #end-row end-row-def.routine code.calls-records·write·end-row (end-row-thm.met 𝓤 H 𝓜 𝓖 𝓡)))
+    (cited 𝓤 H (OpenRow 𝓤 H (𝓖 .A) (𝓜 .mem) (𝓡 .run)) 𝓜 𝓡 code.env #open-row open-row-def.routine code.calls-records·open-row (open-row-thm.met 𝓤 H 𝓜 𝓖 𝓡))
+    (cited 𝓤 H (PushRow 𝓤 H (𝓖 .A) (𝓜 .mem) (𝓡 .run)) 𝓜 𝓡 code.env #push-row push-row-def.routine code.calls-rows·row·push-row (push-row-thm.met 𝓤 H 𝓜 𝓖 𝓡))
+    (cited 𝓤 H (TurnOver 𝓤 H (𝓖 .A) (𝓜 .mem) (𝓡 .run)) 𝓜 𝓡 code.env #turn-over turn-over-def.routine code.calls-records·turn-over (turn-over-thm.met 𝓤 H 𝓜 𝓖 𝓡))
+    (cited 𝓤 H (EndRow 𝓤 H (𝓖 .A) (𝓜 .mem) (𝓡 .run)) 𝓜 𝓡 code.env #end-row end-row-def.routine code.calls-records·end-row (end-row-thm.met 𝓤 H 𝓜 𝓖 𝓡)))

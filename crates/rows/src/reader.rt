@@ -1,7 +1,7 @@
 // A reader that remembers the bundle and its next byte; it leaves the work to `step_at`.
-ghost use Rattle.records.specs.Told.{Steps};
-use crate::step::Yield;
-use crate::step::step_at;
+ghost use Rattle.rows.specs.Stepping.{Steps};
+use records::Yield;
+use records::step_at;
 
 // "A reader that remembers the bundle and its next byte"
 #[repr(C)]
