@@ -9,6 +9,7 @@ use Rattle.number.specs.Answer.{Answer, Read, _then_}
 use Rattle.number.specs.Answer.Answer.{gives}
 use Rattle.number.specs.Number.{numberAt}
 use Rattle.number.proofs.Laws.{bounds}
+use Rattle.number.proofs.Answers.{given-once as same-given, went}
 use Rattle.site.specs.declared.fact.Fact.{Fact}
 use Rattle.site.specs.Items.{countAt, endAt}
 use Rattle.site.specs.Kinds.{ofConcept}
@@ -20,7 +21,6 @@ use Rattle.bundle.specs.Bundle.Last.{none}
 use Rattle.bundle.specs.Lawful.{LawfulFact, LawfulFrom, LawfulFacts}
 use Rattle.bundle.specs.Lawful.LawfulFrom.{done, next}
 use Rattle.bundle.specs.declared.facts.Facts.{Facts}
-use Rattle.number.proofs.Answers.{given-once as same-given, went}
 use Rattle.bundle.proofs.Runs.{ObjectThere, FactThere, Run, walk-there}
 use Rattle.bundle.proofs.Runs.ObjectThere.{of-concept, of-role}
 use Rattle.bundle.proofs.Runs.Run.{stop, more}

@@ -11,6 +11,7 @@ use Rattle.number.specs.Answer.{Answer, over}
 use Rattle.number.specs.Answer.Answer.{gives, refuses}
 use Rattle.number.specs.Number.{numberAt, bytesOf, threeBytes}
 use Rattle.number.proofs.Laws.{Bytes, one-form, reads-back}
+use Rattle.number.proofs.Answers.{never, given-once as same-given}
 use Rattle.site.specs.declared.fact.Fact.{Fact}
 use Rattle.site.specs.Items.{countAt, endAt}
 use Rattle.site.specs.Kinds.{ofConcept}
@@ -22,7 +23,6 @@ use Rattle.bundle.specs.Bundle.Last.{none}
 use Rattle.bundle.specs.Lawful.{LawfulFact, LawfulFrom, LawfulFacts}
 use Rattle.bundle.specs.Lawful.LawfulFrom.{done, next as one-more}
 use Rattle.bundle.specs.declared.facts.Facts.{Facts}
-use Rattle.number.proofs.Answers.{never, given-once as same-given}
 use Rattle.bundle.proofs.Runs.{ObjectThere, FactThere, Run, run-walks, run-reads}
 use Rattle.bundle.proofs.Runs.ObjectThere.{of-concept, of-role}
 use Rattle.bundle.proofs.Runs.Run.{stop, more}

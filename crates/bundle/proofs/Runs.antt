@@ -9,6 +9,7 @@ use lib.Dec.{ltb}
 use Rattle.number.specs.Answer.{Answer, Read, refusal, _then_}
 use Rattle.number.specs.Answer.Answer.{gives, refuses}
 use Rattle.number.specs.Number.{numberAt}
+use Rattle.number.proofs.Answers.{given-once as same-given, passed, went}
 use Rattle.site.specs.declared.fact.Fact.{Fact}
 use Rattle.site.specs.Items.{codeAt}
 use Rattle.site.specs.Kinds.{ofConcept}
@@ -16,7 +17,6 @@ use Rattle.site.specs.Limits.{mostThing}
 use Rattle.site.proofs.There.{code-there}
 use Rattle.bundle.specs.Bundle.{Last, factAt, ascends, factsFrom, factsIn}
 use Rattle.bundle.specs.Bundle.Last.{after}
-use Rattle.number.proofs.Answers.{given-once as same-given, passed, went}
 use Rattle.bundle.specs.Told.{factRest}
 
 -- the object of a fact: none for a concept's, and a number for a role's

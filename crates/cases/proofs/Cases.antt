@@ -16,9 +16,9 @@ use Rattle.writer.specs.Records.{roomFor}
 use Rattle.steps.specs.Tables.{rolesOf, nodesOf, arrow, mates, find, rowsOf, looked, through, closure, apart, empty, excludes, functionalIn, excludedRows, followsFrom, followsOf}
 use Rattle.clashes.specs.Types.{typesOf}
 use Rattle.clashes.specs.Marks.{jar, split, meet, alone, contradict, clash, mark, partner, marks, partners, marked, counts, kept, supports, support}
+use Rattle.clashes.specs.declared.answers.Counts.{Counts}
 use Rattle.clean.specs.Operations.{given, roomForMarks, marking, counting, replyOf, having, joining, keeping, Reply}
 use Rattle.clean.specs.Operations.Reply.{yes-by, none}
-use Rattle.clashes.specs.declared.answers.Counts.{Counts}
 
 -- a case: bytes, and what document 01 says of them
 pub data Case : Type 0 where

@@ -32,9 +32,9 @@ use Rattle.steps.specs.Steps.Excluded.{by-rule as excluded-by-rule, step-5, ste
 use Rattle.steps.specs.Tables.{rolesOf, nodesOf, arrow, mates, find, rowsOf, looked, through, closure, apart, empty, excludes, functionalIn, excludedRows, followsFrom, followsOf}
 use Rattle.clashes.specs.Types.{typ, itself, typesOf}
 use Rattle.clashes.specs.Marks.{jar, split, meet, alone, contradict, clash, mark, partner, marks, partners, marked, counts, supports, support}
+use Rattle.clashes.specs.declared.answers.Judged.{Judged}
 use Rattle.clean.specs.Operations.{given, roomForMarks, marking, asking, replyOf, having, joining, Reply}
 use Rattle.clean.specs.Operations.Reply.{yes-by, none}
-use Rattle.clashes.specs.declared.answers.Judged.{Judged}
 
 -- what is one of two things is not the other, if a number tells them apart
 ruled-out : {A : Type 0} (f : A → ℕ) {x right wrong : A} → x ≡ right → eqb (f right) (f wrong) ≡ false → x ≡ wrong → ⊥

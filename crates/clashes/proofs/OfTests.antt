@@ -17,8 +17,8 @@ use Rattle.site.specs.Codes.{roleCode}
 use Rattle.site.specs.Told.{Code}
 use Rattle.site.proofs.Lists.{and-left, and-right, is-false, true-not-false}
 use Rattle.site.specs.Lists.{any}
-use Rattle.tables.specs.Bits.{has as hasBit, bitOf}
 use Rattle.steps.specs.Tables.{Follows}
+use Rattle.tables.specs.Bits.{has as hasBit, bitOf}
 use Rattle.clashes.specs.Types.{Typ as SaidTyp, typesOf, itself, conceptTypes, roleTypes}
 use Rattle.clashes.specs.Marks.{samePlace, functionalNode, jar, split, meet, alone, contradict}
 use Rattle.clashes.specs.Coded.{code, codedTypes, hasRole, bitsFollow, relatedAt, splitCoded, far}

@@ -9,8 +9,8 @@ use Rattle.site.specs.Codes.{nodeCode, roleCode}
 use Rattle.site.specs.Lists.{any, first}
 use Rattle.bundle.specs.Bundle.{factsOf}
 use Rattle.bundle.specs.declared.facts.Facts.{Facts}
-use Rattle.tables.specs.Bits.{has, bitOf}
 use Rattle.steps.specs.Tables.{Follows}
+use Rattle.tables.specs.Bits.{has, bitOf}
 use Rattle.clashes.specs.Types.{Typ as SaidTyp, typesOf, itself}
 use Rattle.clashes.specs.Marks.{marked}
 use Rattle.clashes.specs.declared.types.Typ.{Typ}

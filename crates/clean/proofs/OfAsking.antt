@@ -14,13 +14,13 @@ use Rattle.bundle.specs.Told.{factTold}
 use Rattle.bundle.specs.declared.facts.Facts.{Facts}
 use Rattle.bundle.specs.declared.one.FactRead.{FactRead}
 use Rattle.bundle.specs.declared.one.FactRead.the-variants.{Read as ReadFact, Refused as NoFact}
+use Rattle.bundle.proofs.Left.{facts-stop, facts-more}
 use Rattle.steps.specs.Tables.{Follows}
 use Rattle.clashes.specs.Types.{itself}
 use Rattle.clashes.specs.Marks.{mark, marked, partner}
 use Rattle.clashes.specs.Coded.{bitsFollow, supportsCoded, supportIn}
 use Rattle.clashes.specs.declared.answers.Judged.{Judged}
 use Rattle.clashes.specs.declared.types.Typ.{Typ}
-use Rattle.bundle.proofs.Left.{facts-stop, facts-more}
 use Rattle.clean.proofs.OfWalks.{Seeking, seek-start, seek-ends, seek-stops, seek-found, seek-on}
 
 abbrev no-fact : Fact

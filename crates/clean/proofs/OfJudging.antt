@@ -13,13 +13,13 @@ use Rattle.site.specs.Lists.{any, first}
 use Rattle.site.proofs.Lists.{and-left, any-found, is-false, first-of, first-none}
 use Rattle.bundle.specs.Bundle.{factsOf}
 use Rattle.bundle.specs.declared.facts.Facts.{Facts}
+use Rattle.bundle.proofs.Left.{facts-few}
 use Rattle.steps.specs.Tables.{Follows}
 use Rattle.clashes.specs.Types.{itself}
 use Rattle.clashes.specs.Marks.{alone, contradict, clash, mark, partner}
 use Rattle.clashes.specs.Coded.{bitsFollow}
 use Rattle.clashes.specs.declared.answers.Judged.{Judged}
 use Rattle.clean.proofs.OfSearch.{alone-by-table}
-use Rattle.bundle.proofs.Left.{facts-few}
 
 -- a fact that clashes with some fact is not alone
 module _ (t : Follows) (facts : List Fact) (f : Fact) where

@@ -19,20 +19,20 @@ use Rattle.site.specs.Kinds.{ofConcept}
 use Rattle.site.specs.Limits.{mostFacts, mostThing}
 use Rattle.site.specs.Lists.{keep, each}
 use Rattle.bundle.specs.Bundle.{factAt, factsIn, factBytes}
-use Rattle.writer.specs.Pushed.{StoresFact, StoredFact}
 use Rattle.bundle.specs.Told.{factTold}
 use Rattle.bundle.specs.declared.one.FactRead.{FactRead}
 use Rattle.bundle.specs.declared.one.FactRead.the-variants.{Read as ReadFact, Refused as NoFact}
 use Rattle.bundle.proofs.Runs.{FactThere, ObjectThere, fact-there}
 use Rattle.bundle.proofs.Runs.ObjectThere.{of-concept, of-role}
+use Rattle.bundle.proofs.Left.{none-left, facts-stop, facts-more}
+use Rattle.writer.specs.Pushed.{StoresFact, StoredFact}
 use Rattle.writer.proofs.FactBytes.{sets-append}
 use Rattle.steps.specs.Tables.{Follows}
 use Rattle.clashes.specs.Types.{itself}
 use Rattle.clashes.specs.Marks.{mark, marked, partner, kept}
-use Rattle.clean.specs.Keeping.{keptBytes, measureOf, measuredWith, SmallMeasure, StoresIf, StoredIf, StoredKept}
 use Rattle.clashes.specs.declared.answers.Judged.{Judged}
+use Rattle.clean.specs.Keeping.{keptBytes, measureOf, measuredWith, SmallMeasure, StoresIf, StoredIf, StoredKept}
 use Rattle.clean.specs.declared.keep.Measure.{Measure}
-use Rattle.bundle.proofs.Left.{none-left, facts-stop, facts-more}
 
 -- one fact
 pub kept-is : (t : Follows) (whole : List Fact) (f : Fact) (j : Judged) → j ≡ record { mark = mark itself t whole f; partner = partner itself t whole f }

@@ -12,7 +12,6 @@ use mir.Syntax.{w8, w16}
 use native.Mathlib.Nat.{zero-add, add-zero}
 use native.Mathlib.Numerals.{add-one}
 use native.Mathlib.Omega.{arith}
-use borrow.Author.Tests.{eq-eqb, ne-eqb}
 use borrow.Author.Needs.{needs}
 use Rattle.number.specs.declared.refusal.Refusal.{Refusal}
 use Rattle.site.specs.declared.fact.Fact.{Fact}
@@ -24,13 +23,13 @@ use Rattle.bundle.specs.Told.{factTold}
 use Rattle.bundle.specs.declared.facts.Facts.{Facts}
 use Rattle.bundle.specs.declared.one.FactRead.{FactRead}
 use Rattle.bundle.specs.declared.one.FactRead.the-variants.{Read as ReadFact, Refused as NoFact}
+use Rattle.bundle.proofs.Left.{none-left, facts-stop, facts-more, facts-few}
 use Rattle.steps.specs.Tables.{Follows}
 use Rattle.clashes.specs.Types.{itself}
 use Rattle.clashes.specs.Marks.{alone, clash, mark, partner, marks, partners, marked, counts}
-use Rattle.clashes.specs.Tally.{noCounts, oneIf, OneIf, tallied, Small, Marks}
+use Rattle.clashes.specs.Tally.{noCounts, oneIf, tallied, Small, Marks}
 use Rattle.clashes.specs.declared.answers.Counts.{Counts}
 use Rattle.clashes.specs.declared.answers.Judged.{Judged}
-use Rattle.bundle.proofs.Left.{none-left, facts-stop, facts-more, facts-few}
 
 -- the counts of facts that are left, upon counts so far
 module _ (t : Follows) (whole : List Fact) where

@@ -22,7 +22,7 @@ use Rattle.rules.proofs.Longest.{longest as longestRules, accepted-short as rul
 use Rattle.bundle.specs.Bundle.{checkBundle, readBundle}
 use Rattle.bundle.specs.declared.facts.Facts.{Facts}
 use Rattle.bundle.proofs.Longest.{longest, accepted-short, past-longest}
-use Rattle.steps.specs.Tables.{Follows, followsOf}
+use Rattle.steps.specs.Tables.{Follows}
 use Rattle.clean.specs.Operations.{given}
 
 module _ (room : ℕ) (enough : longest < room) where

@@ -1,7 +1,7 @@
 // The program: opens `rules.bin` and `bundle.bin` in the directory it is run in, and prints the listing of their marks. What it reads and
 // writes no proof can say; the marks and each line that it writes are proved.
-ghost use Rattle.io.specs.Counts.{Counts};
 ghost use Rattle.cleaner.specs.Prints.{Prints};
+ghost use Rattle.io.specs.Counts.{Counts};
 use libc::STDOUT_FILENO;
 use operations::Counted;
 use site::Fact;

@@ -1,6 +1,6 @@
 -- Demand 2, "as document 01 condenses it": what C sees is what the definitions compute for the files that were read (`Computed`), and by the tables of
 -- accepted rules that is what document 01 says (`BySteps`).
-use Prim.Native.Nat.{ℕ, _+_, _<_}
+use Prim.Native.Nat.{ℕ}
 use mathlib.Core.Path.{_≡_, refl, sym, ap, _∙_, subst⁻¹, subst₂}
 use mathlib.Core.Bool.{Bool, true, false, cond}
 use mathlib.Core.List.{List}
@@ -15,15 +15,15 @@ use Rattle.site.proofs.Lists.{true-not-false}
 use Rattle.bundle.specs.Bundle.{bundleOf}
 use Rattle.clashes.specs.Types.{itself, Typ}
 use Rattle.clashes.specs.Marks.{mark, partner, counts, kept, support}
+use Rattle.clashes.proofs.OfMarks.{marks-add-up}
 use Rattle.clean.specs.Operations.{replyOf}
 use Rattle.clean.specs.Operations.Reply.{yes-by, none}
-use Rattle.clashes.proofs.OfMarks.{marks-add-up}
+use Rattle.shown.specs.Shown.{shownCounts, shownReply, shownLength}
+use Rattle.shown.specs.declared.shapes.DzyCounts.{DzyCounts}
+use Rattle.shown.specs.declared.shapes.DzyAsked.{DzyAsked}
+use Rattle.shown.specs.declared.shapes.DzyAnswer.{DzyAnswer}
+use Rattle.shown.specs.declared.shapes.DzyLength.{DzyLength}
 use Rattle.dzyunagor.specs.Promises.{Mark, Ask, WriteKept}
-use Rattle.dzyunagor.specs.Shown.{shownCounts, shownAsked, shownReply, shownLength}
-use Rattle.dzyunagor.specs.declared.shapes.DzyCounts.{DzyCounts}
-use Rattle.dzyunagor.specs.declared.shapes.DzyAsked.{DzyAsked}
-use Rattle.dzyunagor.specs.declared.shapes.DzyAnswer.{DzyAnswer}
-use Rattle.dzyunagor.specs.declared.shapes.DzyLength.{DzyLength}
 use Rattle.demands.specs.Demands.{Done, BothRead, site, FactAsSaid, CountsAsSaid, KeptFacts, AsDocument01}
 use Rattle.demands.specs.Said.{Numbered, LowestSupport, AnswerIs}
 use Rattle.demands.specs.Said.AnswerIs.{yes-by as yes-so, no-fact}

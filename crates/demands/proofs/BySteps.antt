@@ -2,19 +2,18 @@
 -- counts and support by the tests are those of `Said`. Each test is an `any` over types or facts, so each law goes through a list once.
 use Prim.Native.Nat.{ℕ, zero, suc, _<_}
 use mathlib.Core.Path.{_≡_, refl, sym, ap, _∙_, subst, subst⁻¹}
-use mathlib.Core.Bool.{Bool, true, false, cond, not, _&&_, _||_}
+use mathlib.Core.Bool.{Bool, true, false, cond, not, _&&_}
 use mathlib.Core.Logic.{_↔_, _⊎_, inl, inr}
 use mathlib.Core.List.{List, [], _∷_, List·Memᴰ}
-use lib.Dec.{eqb, ltb}
+use lib.Dec.{eqb}
 use lib.ListN.{length, getD}
 use native.Mathlib.Omega.{arith}
-use borrow.Author.Tests.{eqb-true, eqb-false, eq-eqb, ne-eqb, not-true, ltb-true, ltb-false}
+use borrow.Author.Tests.{eqb-true, eqb-false, eq-eqb, ne-eqb, not-true}
 use Rattle.site.specs.declared.fact.Fact.{Fact}
 use Rattle.site.specs.Kinds.{Node, Site, sameNode}
 use Rattle.site.specs.Kinds.Node.{concept, role}
-use Rattle.site.specs.Limits.{noPartner}
 use Rattle.site.specs.Lists.{any, count, keep}
-use Rattle.site.proofs.Lists.{any-found, any-of, and-left, and-right, and-both, or-cases, or-left, or-right, either, is-false, true-not-false, length-keep}
+use Rattle.site.proofs.Lists.{any-found, any-of, and-left, and-right, and-both, or-cases, or-left, or-right, is-false, true-not-false, length-keep}
 use Rattle.site.proofs.Same.{same-node, same-role-refl}
 use Rattle.steps.specs.Tables.{Follows}
 use Rattle.steps.specs.Decides.{Decides}

@@ -26,14 +26,14 @@ use Rattle.steps.specs.Tables.{Follows, followsOf}
 use Rattle.steps.proofs.Decided.{decides}
 use Rattle.clashes.specs.Types.{itself, Typ, typ}
 use Rattle.clashes.specs.Marks.{mark, marks, partner, partners, counts, kept}
-use Rattle.clean.specs.Operations.{given, roomForMarks, Marked, marking, counting, asking, Reply, replyOf, thingKnown, having, joining, keeping}
 use Rattle.clashes.specs.declared.answers.Judged.{Judged}
+use Rattle.clean.specs.Operations.{given, roomForMarks, Marked, marking, counting, asking, Reply, replyOf, thingKnown, having, joining, keeping}
+use Rattle.shown.specs.Shown.{shownCounts, shownAsked, shownReply, shownAnswer, shownLength}
+use Rattle.shown.specs.declared.shapes.DzyCounts.{DzyCounts}
+use Rattle.shown.specs.declared.shapes.DzyAsked.{DzyAsked}
+use Rattle.shown.specs.declared.shapes.DzyAnswer.{DzyAnswer}
+use Rattle.shown.specs.declared.shapes.DzyLength.{DzyLength}
 use Rattle.dzyunagor.specs.Promises.{Mark, Count, Ask, Has, Joins, WriteKept}
-use Rattle.dzyunagor.specs.Shown.{shownCounts, shownAsked, shownReply, shownAnswer, shownLength}
-use Rattle.dzyunagor.specs.declared.shapes.DzyCounts.{DzyCounts}
-use Rattle.dzyunagor.specs.declared.shapes.DzyAsked.{DzyAsked}
-use Rattle.dzyunagor.specs.declared.shapes.DzyAnswer.{DzyAnswer}
-use Rattle.dzyunagor.specs.declared.shapes.DzyLength.{DzyLength}
 use Rattle.promises.proofs.NeverZero.{mark-tells, has-tells, joins-tells, write-kept-tells}
 use Rattle.demands.specs.Demands.{Done, BothRead, site}
 use Rattle.demands.specs.Said.{Numbered}

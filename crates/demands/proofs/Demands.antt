@@ -1,8 +1,8 @@
 -- The three demands hold.
+use Rattle.face.proofs.TheFace.{the-face}
 use Rattle.demands.specs.Demands.{Demands}
 use Rattle.demands.proofs.AsDocument01.{as-document-01}
 use Rattle.demands.proofs.Exactly.{refuses-exactly}
-use Rattle.face.proofs.TheFace.{the-face}
 use Rattle.demands.proofs.FirstDemand.{one-answer, writes-nothing, over-limits}
 use Rattle.demands.proofs.ReaderYields.{reader-yields}
 use Rattle.demands.proofs.RoundTrips.{round-trips}

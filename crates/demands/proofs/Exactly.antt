@@ -1,7 +1,7 @@
 -- Demand 1, the refusals of arguments and room: for files that were read, each operation's definition is a row of tests on the call's own arguments and on
 -- the lengths of what was lent, and each test's outcome gives its answer.
 use Prim.Native.Nat.{ℕ, _≤_, _<_}
-use mathlib.Core.Path.{_≡_, refl, sym, ap, subst, _∙_}
+use mathlib.Core.Path.{_≡_, refl, sym, ap, _∙_}
 use mathlib.Core.Bool.{Bool, true, false, cond, _&&_, and-false}
 use mathlib.Core.Logic.{_⊎_, inl, inr}
 use mathlib.Core.List.{List, map}
@@ -17,9 +17,9 @@ use Rattle.site.specs.Limits.{mostThing}
 use Rattle.site.specs.declared.fact.Fact.{Fact}
 use Rattle.bundle.specs.Bundle.{factsOf, checkBundle, readBundle, bundleOf}
 use Rattle.bundle.specs.Opened.{opening}
-use Rattle.writer.specs.Records.{roomFor}
 use Rattle.bundle.specs.declared.facts.Facts.{Facts}
 use Rattle.bundle.proofs.Accepted.{accepted-count}
+use Rattle.writer.specs.Records.{roomFor}
 use Rattle.records.specs.Rows.{recordOf, handOut, handRecords}
 use Rattle.records.specs.declared.record.Record.{Record}
 use Rattle.records.proofs.OfReader.{starts}
@@ -27,17 +27,16 @@ use Rattle.clashes.specs.Types.{itself, typ}
 use Rattle.clashes.specs.Marks.{kept}
 use Rattle.clean.specs.Operations.{roomForMarks, Marked, Reply, thingKnown, replyOf}
 use Rattle.clean.specs.Operations.Reply.{yes-by, none}
-use Rattle.dzyunagor.specs.Promises.{Mark, Count, Ask, Has, Joins, WriteKept, Records, ReaderStart}
-use Rattle.dzyunagor.specs.Shown.{refused, shownCounts, shownAsked, shownReply, shownAnswer, shownLength, shownStart}
-use Rattle.dzyunagor.specs.declared.shapes.DzyRefusal.{DzyRefusal}
-use Rattle.dzyunagor.specs.declared.shapes.DzyCounts.{DzyCounts}
-use Rattle.dzyunagor.specs.declared.shapes.DzyAsked.{DzyAsked}
-use Rattle.dzyunagor.specs.declared.shapes.DzyAnswer.{DzyAnswer}
-use Rattle.dzyunagor.specs.declared.shapes.DzyLength.{DzyLength}
-use Rattle.dzyunagor.specs.declared.shapes.DzyStart.{DzyStart}
+use Rattle.shown.specs.Shown.{refused, shownCounts, shownAsked, shownReply, shownAnswer, shownLength, shownStart}
+use Rattle.shown.specs.declared.shapes.DzyCounts.{DzyCounts}
+use Rattle.shown.specs.declared.shapes.DzyAsked.{DzyAsked}
+use Rattle.shown.specs.declared.shapes.DzyAnswer.{DzyAnswer}
+use Rattle.shown.specs.declared.shapes.DzyLength.{DzyLength}
+use Rattle.shown.specs.declared.shapes.DzyStart.{DzyStart}
+use Rattle.dzyunagor.specs.Promises.{Mark, Ask, Has, Joins, WriteKept, Records, ReaderStart}
 use Rattle.demands.specs.Demands.{Done, BothRead, site, KeptFacts, RefusesExactly}
 use Rattle.demands.proofs.BySteps.{those-once, kept-those}
-use Rattle.demands.proofs.Computed.{tables, decided, count-is, asked-so, judgedOf, nowhere, asks, asks-is, asks-pair, asks-pair-is, allMarked, marking-is, keptBundle, keeping-is}
+use Rattle.demands.proofs.Computed.{tables, decided, count-is, asked-so, judgedOf, nowhere, asks, asks-is, asks-pair, asks-pair-is, allMarked, marking-is, keeping-is}
 
 -- what C sees of an answer's refusal
 reply-done : (reply : Reply) → Done (shownReply reply .refused)

@@ -1,7 +1,7 @@
 -- Demand 1: the one-answer statements put together; that a refusal leaves lent memory as it was; and that what is over a limit is refused. What C sees
 -- tells whether an answer is a refusal (`Tells`); where it is one, the promise's memory computes to what was lent.
 use Prim.Native.Nat.{ℕ, _≤_, _<_}
-use mathlib.Core.Path.{_≡_, refl, sym, ap, subst, _∙_}
+use mathlib.Core.Path.{_≡_, sym, ap, subst, _∙_}
 use mathlib.Core.List.{List}
 use lib.ListN.{length}
 use borrow.Author.Tests.{lt-leb}
@@ -23,16 +23,16 @@ use Rattle.bundle.specs.Opened.{opening}
 use Rattle.bundle.specs.declared.facts.Facts.{Facts}
 use Rattle.bundle.specs.declared.open.Inputs.{Inputs}
 use Rattle.bundle.proofs.Accepted.{accepted-lawful, accepted-count}
-use Rattle.clean.specs.Operations.{Marked, marking, keeping}
 use Rattle.records.specs.Rows.{handRecords, writeRow}
 use Rattle.records.specs.declared.record.Record.{Record}
-use Rattle.rows.specs.declared.reader.Reader.{Reader}
 use Rattle.records.proofs.OfReader.{refused-stays}
+use Rattle.rows.specs.declared.reader.Reader.{Reader}
+use Rattle.clean.specs.Operations.{Marked, marking, keeping}
+use Rattle.shown.specs.Shown.{refused, shownLength}
+use Rattle.shown.specs.declared.shapes.DzyCounts.{DzyCounts}
+use Rattle.shown.specs.declared.shapes.DzyLength.{DzyLength}
+use Rattle.shown.specs.declared.shapes.DzyYield.{DzyYield}
 use Rattle.dzyunagor.specs.Promises.{CheckBundle, Mark, WriteKept, Records, WriteRecords, ReaderNext}
-use Rattle.dzyunagor.specs.Shown.{refused, shownLength}
-use Rattle.dzyunagor.specs.declared.shapes.DzyCounts.{DzyCounts}
-use Rattle.dzyunagor.specs.declared.shapes.DzyLength.{DzyLength}
-use Rattle.dzyunagor.specs.declared.shapes.DzyYield.{DzyYield}
 use Rattle.promises.proofs.OneAnswer.{one-check-rules, one-check-bundle, one-mark, one-count, one-ask, one-has, one-joins, one-write-kept, one-records, one-write-records, one-reader-start, one-reader-next}
 use Rattle.promises.proofs.NeverZero.{check-bundle-tells, mark-tells, write-kept-tells, records-tells, write-records-tells, reader-next-tells}
 use Rattle.demands.specs.Demands.{Done, Refused, BothRead, OneAnswer, WritesNothing, OverLimits}

@@ -1,6 +1,6 @@
 -- The reader, step by step as C calls it: its yields are the definition's, shown; on an accepted bundle these are the facts, and then that it is done.
 use Prim.Native.Nat.{ℕ, zero, suc, _+_, _≤_}
-use mathlib.Core.Path.{_≡_, refl, sym, ap, _∙_}
+use mathlib.Core.Path.{_≡_, refl, ap, _∙_}
 use mathlib.Core.List.{List, [], _∷_, _++_, map}
 use lib.ListN.{length, take, replicate}
 use native.Mathlib.Omega.{arith}
@@ -12,12 +12,12 @@ use Rattle.site.specs.declared.fact.Fact.{Fact}
 use Rattle.bundle.specs.Bundle.{factsOf, checkBundle, readBundle}
 use Rattle.records.specs.Reading.{Found, readerStep, yieldsFrom}
 use Rattle.records.specs.Reading.Found.{fact, done}
-use Rattle.rows.specs.declared.reader.Reader.{Reader}
 use Rattle.records.proofs.OfReader.{yielded, starts, yields-all}
+use Rattle.rows.specs.declared.reader.Reader.{Reader}
+use Rattle.shown.specs.Shown.{shownFound, shownStart, shownYield}
+use Rattle.shown.specs.declared.shapes.DzyStart.{DzyStart}
+use Rattle.shown.specs.declared.shapes.DzyYield.{DzyYield}
 use Rattle.dzyunagor.specs.Promises.{ReaderStart}
-use Rattle.dzyunagor.specs.Shown.{shownFound, shownStart, shownYield}
-use Rattle.dzyunagor.specs.declared.shapes.DzyStart.{DzyStart}
-use Rattle.dzyunagor.specs.declared.shapes.DzyYield.{DzyYield}
 use Rattle.demands.specs.Demands.{BothRead, Walked, yields, ReaderYields}
 use Rattle.demands.specs.Demands.Walked.{stop, step}
 

@@ -27,9 +27,9 @@ use Rattle.records.specs.Rows.{recordOf, factOf, handOut, handRecords, writeRow
 use Rattle.records.specs.declared.record.Record.{Record}
 use Rattle.records.proofs.Filling.{handed-out}
 use Rattle.records.proofs.OfRows.{out-and-back, in-and-out}
+use Rattle.shown.specs.Shown.{shownLength}
+use Rattle.shown.specs.declared.shapes.DzyLength.{DzyLength}
 use Rattle.dzyunagor.specs.Promises.{Records, WriteRecords}
-use Rattle.dzyunagor.specs.Shown.{shownLength}
-use Rattle.dzyunagor.specs.declared.shapes.DzyLength.{DzyLength}
 use Rattle.promises.proofs.NeverZero.{records-tells, write-records-tells}
 use Rattle.demands.specs.Demands.{Done, RoundTrips}
 

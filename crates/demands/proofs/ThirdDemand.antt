@@ -26,12 +26,12 @@ use Rattle.operations.proofs.OfKeptAgain.{kept-reads}
 use Rattle.worlds.specs.Worlds.{World, Is, Joins as Joined, Consistent, Always}
 use Rattle.worlds.specs.Demand3.{SiteDecided}
 use Rattle.worlds.proofs.Demand.{demand-3}
+use Rattle.shown.specs.Shown.{shownReply}
+use Rattle.shown.specs.declared.shapes.DzyCounts.{DzyCounts}
+use Rattle.shown.specs.declared.shapes.DzyAsked.{DzyAsked}
+use Rattle.shown.specs.declared.shapes.DzyAnswer.{DzyAnswer}
+use Rattle.shown.specs.declared.shapes.DzyLength.{DzyLength}
 use Rattle.dzyunagor.specs.Promises.{Mark, Ask, Has, Joins, WriteKept}
-use Rattle.dzyunagor.specs.Shown.{shownAsked, shownReply}
-use Rattle.dzyunagor.specs.declared.shapes.DzyCounts.{DzyCounts}
-use Rattle.dzyunagor.specs.declared.shapes.DzyAsked.{DzyAsked}
-use Rattle.dzyunagor.specs.declared.shapes.DzyAnswer.{DzyAnswer}
-use Rattle.dzyunagor.specs.declared.shapes.DzyLength.{DzyLength}
 use Rattle.demands.specs.Demands.{Done, BothRead, site, KeptFacts, FactByWorlds, WorldsDecide}
 use Rattle.demands.specs.Said.{Numbered}
 use Rattle.demands.proofs.BySteps.{getD-any, those-once, kept-those}

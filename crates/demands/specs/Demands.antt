@@ -25,15 +25,15 @@ use Rattle.records.specs.declared.record.Record.{Record}
 use Rattle.rows.specs.declared.reader.Reader.{Reader}
 use Rattle.clashes.specs.Types.{itself, typ}
 use Rattle.worlds.specs.Worlds.{Is, Joins as Joined, Consistent, LeftOut, LowestConflict, Always}
+use Rattle.shown.specs.Shown.{refused, shownLength, shownFound}
+use Rattle.shown.specs.declared.shapes.DzyRefusal.{DzyRefusal}
+use Rattle.shown.specs.declared.shapes.DzyCounts.{DzyCounts}
+use Rattle.shown.specs.declared.shapes.DzyAsked.{DzyAsked}
+use Rattle.shown.specs.declared.shapes.DzyAnswer.{DzyAnswer}
+use Rattle.shown.specs.declared.shapes.DzyLength.{DzyLength}
+use Rattle.shown.specs.declared.shapes.DzyStart.{DzyStart}
+use Rattle.shown.specs.declared.shapes.DzyYield.{DzyYield}
 use Rattle.dzyunagor.specs.Promises.{CheckRules, CheckBundle, Mark, Count, Ask, Has, Joins, WriteKept, Records, WriteRecords, ReaderStart, ReaderNext}
-use Rattle.dzyunagor.specs.Shown.{refused, shownLength, shownFound}
-use Rattle.dzyunagor.specs.declared.shapes.DzyRefusal.{DzyRefusal}
-use Rattle.dzyunagor.specs.declared.shapes.DzyCounts.{DzyCounts}
-use Rattle.dzyunagor.specs.declared.shapes.DzyAsked.{DzyAsked}
-use Rattle.dzyunagor.specs.declared.shapes.DzyAnswer.{DzyAnswer}
-use Rattle.dzyunagor.specs.declared.shapes.DzyLength.{DzyLength}
-use Rattle.dzyunagor.specs.declared.shapes.DzyStart.{DzyStart}
-use Rattle.dzyunagor.specs.declared.shapes.DzyYield.{DzyYield}
 use Rattle.face.specs.Face.{Face}
 use Rattle.demands.specs.Said.{Numbered, Those, HowMany, Alone, Disputed, Kept, MarkIs, PartnerIs, AnswerIs}
 

@@ -10,51 +10,28 @@ use Rattle.rules.specs.Told.{rulesTold}
 use Rattle.rules.specs.declared.head.Head.{Head}
 use Rattle.rules.specs.declared.check.RulesRead.{RulesRead}
 use Rattle.rules.specs.declared.check.RulesRead.the-variants.{Accepted as RulesAccepted, Refused as RulesRefused}
-use Rattle.writer.specs.Pushed.{wroteTold}
-use Rattle.writer.specs.declared.writing.BundleWrote.{BundleWrote}
-use Rattle.writer.specs.declared.writing.BundleWrote.the-variants.{Written, Refused as NotWritten}
-use Rattle.clean.specs.Operations.{counting, asking, having, joining}
-use Rattle.clashes.specs.declared.answers.Counts.{Counts}
-use Rattle.clashes.specs.declared.answers.Judged.{Judged}
 use Rattle.bundle.specs.Opened.{opening, openedTold}
-use Rattle.operations.specs.Promises.{countedTold, askedTold, repliedTold, MarksAll, WritesKept}
 use Rattle.bundle.specs.declared.open.Inputs.{Inputs}
 use Rattle.bundle.specs.declared.open.Opened.{Opened}
 use Rattle.bundle.specs.declared.open.Opened.the-variants.{Accepted as Ready, Refused as NotReady}
+use Rattle.writer.specs.Pushed.{wroteTold}
+use Rattle.writer.specs.declared.writing.BundleWrote.{BundleWrote}
+use Rattle.clean.specs.Operations.{counting, asking, having, joining}
+use Rattle.operations.specs.Promises.{countedTold, askedTold, repliedTold, MarksAll, WritesKept}
 use Rattle.operations.specs.declared.mark.Counted.{Counted}
-use Rattle.operations.specs.declared.mark.Counted.the-variants.{Counts as CountsAre, Refused as NotCounted}
 use Rattle.operations.specs.declared.mark.Asked.{Asked}
-use Rattle.operations.specs.declared.mark.Asked.the-variants.{Judged as JudgedSo, Refused as NotJudged}
 use Rattle.operations.specs.declared.question.Replied.{Replied}
-use Rattle.operations.specs.declared.question.Replied.the-variants.{Yes, No, Refused as NotReplied}
+use Rattle.shown.specs.Shown.{notRefused, refused, shownCounts, shownAsked, shownAnswer, shownLength}
+use Rattle.shown.specs.declared.shapes.DzyRefusal.{DzyRefusal}
+use Rattle.shown.specs.declared.shapes.DzyCounts.{DzyCounts}
+use Rattle.shown.specs.declared.shapes.DzyAsked.{DzyAsked}
+use Rattle.shown.specs.declared.shapes.DzyAnswer.{DzyAnswer}
+use Rattle.shown.specs.declared.shapes.DzyLength.{DzyLength}
 use Rattle.dzyunagor.specs.Promises.{CheckRules, CheckBundle, Mark, Count, Ask, Has, Joins, WriteKept}
-use Rattle.dzyunagor.specs.Shown.{notRefused, refused, shownCounts, shownAsked, shownAnswer, shownLength}
-use Rattle.dzyunagor.specs.declared.shapes.DzyRefusal.{DzyRefusal}
-use Rattle.dzyunagor.specs.declared.shapes.DzyCounts.{DzyCounts}
-use Rattle.dzyunagor.specs.declared.shapes.DzyAsked.{DzyAsked}
-use Rattle.dzyunagor.specs.declared.shapes.DzyAnswer.{DzyAnswer}
-use Rattle.dzyunagor.specs.declared.shapes.DzyLength.{DzyLength}
 
--- the cases of each answer
+-- how many rules or facts there are
 module _ (x : DzyRefusal) where
   module _ (plain : x ≡ notRefused) where
-    pub counts-shown : (a : Counted) (c : Counts) → a ≡ CountsAre c
-        → _≡_ {A = DzyCounts} (record { refused = x; facts = c .facts; kept = c .kept; alone = c .alone; disputed = c .disputed }) (shownCounts (countedTold a))
-    counts-shown a c e = rw (e, plain)
-
-    pub judged-shown : (a : Asked) (j : Judged) → a ≡ JudgedSo j
-        → _≡_ {A = DzyAsked} (record { refused = x; mark = j .mark; partner = j .partner }) (shownAsked (askedTold a))
-    judged-shown a j e = rw (e, plain)
-
-    pub yes-shown : (a : Replied) (n : ℕ) → a ≡ Yes n → _≡_ {A = DzyAnswer} (record { refused = x; yes = 1; fact = n }) (shownAnswer (repliedTold a))
-    yes-shown a n e = rw (e, plain)
-
-    pub no-shown : (a : Replied) → a ≡ No → _≡_ {A = DzyAnswer} (record { refused = x; yes = 0; fact = 0 }) (shownAnswer (repliedTold a))
-    no-shown a e = rw (e, plain)
-
-    pub length-shown : (a : BundleWrote) (n : ℕ) → a ≡ Written n → _≡_ {A = DzyLength} (record { refused = x; length = n }) (shownLength (wroteTold a))
-    length-shown a n e = rw (e, plain)
-
     pub rules-shown : (a : RulesRead) (h : Head) (rules : List ℕ) → rulesTold a ≡ checkRules rules → a ≡ RulesAccepted h
         → CheckRules rules (record { refused = x; length = h .rules })
     unfolding CheckRules
@@ -66,19 +43,6 @@ module _ (x : DzyRefusal) where
     bundle-shown a i rules bundle is e = rw (← is, e, plain)
 
   module _ (r : Refusal) (told : x ≡ refused r) where
-    pub counts-refused : (a : Counted) → a ≡ NotCounted r
-        → _≡_ {A = DzyCounts} (record { refused = x; facts = 0; kept = 0; alone = 0; disputed = 0 }) (shownCounts (countedTold a))
-    counts-refused a e = rw (e, told)
-
-    pub judged-refused : (a : Asked) → a ≡ NotJudged r → _≡_ {A = DzyAsked} (record { refused = x; mark = 0; partner = 0 }) (shownAsked (askedTold a))
-    judged-refused a e = rw (e, told)
-
-    pub answer-refused : (a : Replied) → a ≡ NotReplied r → _≡_ {A = DzyAnswer} (record { refused = x; yes = 0; fact = 0 }) (shownAnswer (repliedTold a))
-    answer-refused a e = rw (e, told)
-
-    pub length-refused : (a : BundleWrote) → a ≡ NotWritten r → _≡_ {A = DzyLength} (record { refused = x; length = 0 }) (shownLength (wroteTold a))
-    length-refused a e = rw (e, told)
-
     pub rules-refused : (a : RulesRead) (rules : List ℕ) → rulesTold a ≡ checkRules rules → a ≡ RulesRefused r → CheckRules rules (record { refused = x; length = 0 })
     unfolding CheckRules
     rules-refused a rules is e = rw (← is, e, told)
@@ -114,4 +78,4 @@ module _ (rules bundle : List ℕ) where
   wrote a out out′ w r e = record { answer = e ∙ ap shownLength (w .answer); memory = w .memory }
 
 pub ruleset face =
-    (counts-shown, judged-shown, yes-shown, no-shown, length-shown, rules-shown, bundle-shown, counts-refused, judged-refused, answer-refused, length-refused, rules-refused, bundle-refused, marked, counted, asked, had, joined, wrote, needs)
+    (rules-shown, bundle-shown, rules-refused, bundle-refused, marked, counted, asked, had, joined, wrote, needs)

@@ -7,19 +7,19 @@ use lib.ListN.{length}
 use denote.Ref.{now}
 use Rattle.number.specs.Answer.{over, laid}
 use Rattle.rules.specs.RuleFile.{checkRules}
-use Rattle.clean.specs.Operations.{marking, counting, asking, having, joining, keeping}
 use Rattle.bundle.specs.Opened.{opening}
 use Rattle.records.specs.Reading.{readerStart, readerStep}
 use Rattle.records.specs.Rows.{handRecords, writeRow}
 use Rattle.records.specs.declared.record.Record.{Record}
 use Rattle.rows.specs.declared.reader.Reader.{Reader}
-use Rattle.dzyunagor.specs.Shown.{shownCounts, shownAsked, shownAnswer, shownLength, shownStart, shownYield}
-use Rattle.dzyunagor.specs.declared.shapes.DzyCounts.{DzyCounts}
-use Rattle.dzyunagor.specs.declared.shapes.DzyAsked.{DzyAsked}
-use Rattle.dzyunagor.specs.declared.shapes.DzyAnswer.{DzyAnswer}
-use Rattle.dzyunagor.specs.declared.shapes.DzyLength.{DzyLength}
-use Rattle.dzyunagor.specs.declared.shapes.DzyStart.{DzyStart}
-use Rattle.dzyunagor.specs.declared.shapes.DzyYield.{DzyYield}
+use Rattle.clean.specs.Operations.{marking, counting, asking, having, joining, keeping}
+use Rattle.shown.specs.Shown.{shownCounts, shownAsked, shownAnswer, shownLength, shownStart, shownYield}
+use Rattle.shown.specs.declared.shapes.DzyCounts.{DzyCounts}
+use Rattle.shown.specs.declared.shapes.DzyAsked.{DzyAsked}
+use Rattle.shown.specs.declared.shapes.DzyAnswer.{DzyAnswer}
+use Rattle.shown.specs.declared.shapes.DzyLength.{DzyLength}
+use Rattle.shown.specs.declared.shapes.DzyStart.{DzyStart}
+use Rattle.shown.specs.declared.shapes.DzyYield.{DzyYield}
 
 -- reading the rules: how many they are
 unfoldable pub CheckRules : List ℕ → DzyLength → Type 0

@@ -1,29 +1,24 @@
 // The library's face: every public operation, for C and Rust, without any demand on the caller.
 ghost use Rattle.dzyunagor.specs.Promises.{CheckRules, CheckBundle, Mark, Count, Ask, Has, Joins, WriteKept, Records, WriteRecords, ReaderStart, ReaderNext};
-
-mod shapes;
-mod show;
-
 use bundle::Opened;
 use records::Record;
 use rows::Reader;
 use rules::RulesRead;
-pub use shapes::DzyAnswer;
-pub use shapes::DzyAsked;
-pub use shapes::DzyCounts;
-pub use shapes::DzyLength;
-pub use shapes::DzyRefusal;
-pub use shapes::DzyStart;
-pub use shapes::DzyYield;
-use shapes::is_refused;
-use shapes::not_refused;
-use show::show_answer;
-use show::show_asked;
-use show::show_counts;
-use show::show_length;
-use show::show_row;
-use show::show_start;
-use show::show_yield;
+use shown::DzyAnswer;
+use shown::DzyAsked;
+use shown::DzyCounts;
+use shown::DzyLength;
+use shown::DzyStart;
+use shown::DzyYield;
+use shown::is_refused;
+use shown::not_refused;
+use shown::show_answer;
+use shown::show_asked;
+use shown::show_counts;
+use shown::show_length;
+use shown::show_row;
+use shown::show_start;
+use shown::show_yield;
 
 // How many rules an accepted rule file has.
 #[no_mangle]

@@ -10,13 +10,13 @@ use borrow.Author.Needs.{needs}
 use Rattle.tables.specs.Bits.{has, Has, IsTable, Added, CameAdded}
 use Rattle.tables.specs.Bits.CameAdded.{old-one, new-one}
 use Rattle.tables.specs.Listed.{countOf, nodeAt, Listed}
+use Rattle.tables.proofs.Words.{in-row}
 use Rattle.exclusions.specs.Lowering.{Transitive, Order, Even, Down, Widened, Either, Mirrored, Meets, Spreads, CameEmptied, EmptiedOne, EmptiedRow, Emptied, EmptiedBy, EmptiedTo, EmptiedAll, Shut, Shuts}
 use Rattle.exclusions.specs.Lowering.Down.{at-once, below}
 use Rattle.exclusions.specs.Lowering.Either.{this-way, other-way}
 use Rattle.exclusions.specs.Lowering.CameEmptied.{at-once as was-there, leads as leads-there}
 use Rattle.exclusions.specs.Lowering.Emptied.{at-once as was, leads}
 use Rattle.exclusions.specs.Lowering.Shut.{apart, void}
-use Rattle.tables.proofs.Words.{in-row}
 use Rattle.exclusions.proofs.Mirroring.{gave-none, gave-one, gave-start, gave-on, gave-end, row-fits-taking, bit-fits-taking, row-fits-giving, bit-fits-giving, mirror-over, row-mirrored, mirrored-start, mirrored-on, mirrored-end}
 use Rattle.exclusions.proofs.Taking.{took-none, took-one, took-start, took-on, took-end, row-over, row-taken-in, widened-start, widened-on, widened-end}
 

@@ -11,11 +11,11 @@ use mir.Val.{Fits}
 use Rattle.tables.specs.Bits.{bitOf, Has, IsTable, Added, CameAdded}
 use Rattle.tables.specs.Bits.CameAdded.{old-one, new-one}
 use Rattle.tables.specs.Listed.{countOf, nodeAt}
+use Rattle.tables.proofs.Words.{in-row, in-column, bit-there}
 use Rattle.exclusions.specs.Lowering.{TookTo, Either, CameGiven, GaveBit, CameGivenWord, GaveTo, GaveWord, MirroredRow, MirroredTo, Mirrored}
 use Rattle.exclusions.specs.Lowering.CameGiven.{at-once as given-stood, given as given-bit}
 use Rattle.exclusions.specs.Lowering.CameGivenWord.{at-once as gw-stood, given as gw-given}
 use Rattle.exclusions.specs.Lowering.Either.{this-way, other-way}
-use Rattle.tables.proofs.Words.{in-row, in-column, bit-there}
 use Rattle.exclusions.proofs.Taking.{word-bit}
 use Rattle.exclusions.proofs.WordBits.{below-64, whole-word, halved, bit-is, is-bit, no-more, room}
 

@@ -10,12 +10,12 @@ use lib.ListN.{getD}
 use Rattle.tables.specs.Bits.{bitOf, Has, IsTable, Joined, CameJoined}
 use Rattle.tables.specs.Bits.CameJoined.{old-one as old-join, from-row}
 use Rattle.tables.specs.Listed.{countOf, nodeAt}
+use Rattle.tables.proofs.Words.{in-row, in-column, bit-there, has-bit}
 use Rattle.exclusions.specs.Lowering.{Transitive, CameBit, TookBit, CameWord, TookTo, TookWord, CameRow, TookRow, Down, WidenedTo, Widened}
 use Rattle.exclusions.specs.Lowering.CameBit.{at-once as bit-stood, taken as bit-taken}
 use Rattle.exclusions.specs.Lowering.CameWord.{at-once as word-stood, taken as word-taken}
 use Rattle.exclusions.specs.Lowering.CameRow.{at-once as row-stood, taken as row-taken}
 use Rattle.exclusions.specs.Lowering.Down.{at-once, below}
-use Rattle.tables.proofs.Words.{in-row, in-column, bit-there, has-bit}
 use Rattle.exclusions.proofs.WordBits.{below-64, whole-word, halved, bit-is, is-bit, no-more}
 
 -- one row takes others in

@@ -1,5 +1,4 @@
 -- The face keeps its promises: each function's own proof is the statement.
-use Rattle.face.specs.Face.{Face}
 use Rattle.dzyunagor.proofs.dzy_check_rules.Met as dzy_check_rules
 use Rattle.dzyunagor.proofs.dzy_check_bundle.Met as dzy_check_bundle
 use Rattle.dzyunagor.proofs.dzy_mark.Met as dzy_mark
@@ -12,6 +11,7 @@ use Rattle.dzyunagor.proofs.dzy_records.Met as dzy_records
 use Rattle.dzyunagor.proofs.dzy_write_records.Met as dzy_write_records
 use Rattle.dzyunagor.proofs.dzy_reader_start.Met as dzy_reader_start
 use Rattle.dzyunagor.proofs.dzy_reader_next.Met as dzy_reader_next
+use Rattle.face.specs.Face.{Face}
 
 pub the-face : Face
 the-face =

@@ -24,13 +24,13 @@ use Rattle.site.specs.declared.rule.Rule.{Rule as RuleCase}
 use Rattle.site.specs.declared.rule.Rule.the-variants.{Included, Disjoint, RoleIncluded, RoleDisjoint, Functional}
 use Rattle.site.proofs.OfCodes.{role-code}
 use Rattle.site.proofs.Lists.{or-cases, or-left, or-right}
+use Rattle.steps.specs.Tables.{Pair, arrowsOf}
 use Rattle.tables.specs.Bits.{bitOf, Has, IsTable, Added, CameAdded}
 use Rattle.tables.specs.Bits.CameAdded.{old-one, new-one}
-use Rattle.steps.specs.Tables.{Pair, arrowsOf}
+use Rattle.tables.proofs.Words.{bit-or, bit-same, bit-other}
 use Rattle.follows.specs.Adding.{CamePair, AddedAll, roleArrows, someArrows, inBothOrders, exclusionsOf, ring, rings, RingsTo, CameFunctional, FunctionalAdded}
 use Rattle.follows.specs.Adding.CamePair.{at-once, of-pair}
 use Rattle.follows.specs.Adding.CameFunctional.{at-once as was, of-rule}
-use Rattle.tables.proofs.Words.{bit-or, bit-same, bit-other}
 
 -- no pair, one more pair, more pairs
 pub added-none : (t : List ℕ) → IsTable t → AddedAll [] t t

@@ -14,17 +14,10 @@ use Rattle.site.specs.Codes.{nodeOf, nodeCode}
 use Rattle.site.specs.Lists.{upTo, each}
 use Rattle.site.proofs.Lists.{each-of, of-each, below-of-upTo, upTo-of-below, or-cases, or-left}
 use Rattle.rules.specs.Lawful.{Lawful}
-use Rattle.tables.specs.Bits.{Has}
 use Rattle.steps.specs.Closed.Closed.{here, one, on}
-use Rattle.tables.specs.Listed.{Listed}
-use Rattle.tables.specs.Passes.{Within, Reach, Closes}
-use Rattle.exclusions.specs.Lowering.{Order, Even, Meets, Shut, Shuts}
-use Rattle.exclusions.specs.Lowering.Shut.{apart, void}
 use Rattle.steps.specs.Steps.{Included, Excluded, OneOf}
 use Rattle.steps.specs.Steps.OneOf.{itself, has, has-inverse}
 use Rattle.steps.specs.Tables.{Pair, Relation, arrowsOf, writtenOf, arrow, mates, nodesOf}
-use Rattle.follows.specs.Adding.{AddedAll, inBothOrders, exclusionsOf, ring, rings}
-use Rattle.follows.specs.Tells.{Blank}
 use Rattle.steps.proofs.Rows.{On}
 use Rattle.steps.proofs.Closing.{Reaches}
 use Rattle.steps.proofs.Declares.{node-in, node-out}
@@ -33,6 +26,13 @@ use Rattle.steps.proofs.Arrows.{arrow-given, arrow-of, arrow-included, leads-in
 use Rattle.steps.proofs.Apart.{Three, of-mates, onward, LeadsOn, Across, Apart, Kept, written-excludes, mates-lead, kept-excluded, excluded-kept}
 use Rattle.steps.proofs.Apart.Across.{straight, crossed}
 use Rattle.steps.proofs.Apart.Kept.{by-written, by-void}
+use Rattle.tables.specs.Bits.{Has}
+use Rattle.tables.specs.Listed.{Listed}
+use Rattle.tables.specs.Passes.{Within, Reach, Closes}
+use Rattle.exclusions.specs.Lowering.{Order, Even, Meets, Shut, Shuts}
+use Rattle.exclusions.specs.Lowering.Shut.{apart, void}
+use Rattle.follows.specs.Adding.{AddedAll, inBothOrders, exclusionsOf, ring, rings}
+use Rattle.follows.specs.Tells.{Blank}
 use Rattle.follows.proofs.Numbers.{node-code, code-node, code-listed, listed-declared, declared-listed}
 use Rattle.follows.proofs.Adds.{added-more}
 use Rattle.follows.proofs.FromBlank.{FromPair, from-pair}

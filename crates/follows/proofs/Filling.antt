@@ -21,8 +21,8 @@ use Rattle.rules.specs.declared.head.Head.{Head}
 use Rattle.rules.specs.declared.read.RuleRead.{RuleRead}
 use Rattle.rules.specs.declared.read.RuleRead.the-variants.{Read as RuleIs, Refused as RuleRefused}
 use Rattle.rules.proofs.Checking.{none-left, one-more, all-read}
-use Rattle.tables.specs.Bits.{bitOf, IsTable}
 use Rattle.steps.specs.Tables.{Pair, arrowsOf}
+use Rattle.tables.specs.Bits.{bitOf, IsTable}
 use Rattle.follows.specs.Adding.{AddedAll, exclusionsOf, CameFunctional, FunctionalAdded}
 use Rattle.follows.specs.Adding.CameFunctional.{at-once, of-rule}
 use Rattle.follows.specs.Tells.{Blank, AddedSoFar, FunctionalOf, FunctionalSoFar}

@@ -6,12 +6,12 @@ use mathlib.Core.List.{List, List·Memᴰ}
 use native.Mathlib.Omega.{arith}
 use lib.ListN.{getD, getD-replicate}
 use Rattle.site.specs.Codes.{nodeCode}
-use Rattle.tables.specs.Bits.{bitOf, Has}
 use Rattle.steps.specs.Tables.{Pair}
+use Rattle.tables.specs.Bits.{bitOf, Has}
+use Rattle.tables.proofs.Words.{in-row, in-column, bit-there}
 use Rattle.follows.specs.Adding.{CamePair, AddedAll}
 use Rattle.follows.specs.Adding.CamePair.{at-once, of-pair}
 use Rattle.follows.specs.Tells.{Blank}
-use Rattle.tables.proofs.Words.{in-row, in-column, bit-there}
 use Rattle.follows.proofs.Filling.{bit-of-none}
 
 -- an empty table has nothing

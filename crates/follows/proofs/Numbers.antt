@@ -12,9 +12,9 @@ use Rattle.site.specs.Kinds.BasicConcept.{named, some}
 use Rattle.site.specs.Kinds.Node.{concept, role}
 use Rattle.site.specs.Codes.{roleOf, roleCode, conceptOf, nodeOf, nodeCode}
 use Rattle.site.proofs.OfKinds.{role-even, role-odd}
+use Rattle.site.proofs.OfCodes.{role-code, concept-code}
 use Rattle.rules.specs.Lawful.{Lawful}
 use Rattle.tables.specs.Listed.{nodeAt, Listed}
-use Rattle.site.proofs.OfCodes.{role-code, concept-code}
 
 -- a number's node has that number
 pub node-code : (x : ℕ) → nodeCode (nodeOf x) ≡ x

@@ -13,14 +13,14 @@ use Rattle.site.proofs.Lists.{same-test}
 use Rattle.rules.specs.Lawful.{Lawful}
 use Rattle.rules.specs.RuleFile.{rulesIn, siteOf}
 use Rattle.rules.specs.declared.head.Head.{Head}
+use Rattle.steps.specs.Tables.{arrowsOf, followsFrom, followsOf}
+use Rattle.steps.proofs.Arrows.{leads-included, included-leads}
+use Rattle.steps.proofs.Decided.{decides, functional-out, functional-in}
 use Rattle.tables.specs.Bits.{bitOf, has}
 use Rattle.tables.specs.Passes.{Closes}
 use Rattle.exclusions.specs.Lowering.{Shuts}
-use Rattle.steps.specs.Tables.{arrowsOf, followsFrom, followsOf}
 use Rattle.follows.specs.Adding.{AddedAll, exclusionsOf, rings}
 use Rattle.follows.specs.Tells.{Blank, FunctionalOf, Tells}
-use Rattle.steps.proofs.Arrows.{leads-included, included-leads}
-use Rattle.steps.proofs.Decided.{decides, functional-out, functional-in}
 use Rattle.follows.proofs.Numbers.{code-node, role-of-code}
 use Rattle.follows.proofs.Bridge.{included-based, on-based, excluded-out, excluded-in}
 use Rattle.follows.proofs.Filling.{blank-table, zeros-table}

@@ -10,8 +10,8 @@ use Rattle.site.specs.Kinds.Node.{concept, role}
 use Rattle.site.specs.Kinds.Rule.{functional}
 use Rattle.site.specs.Codes.{roleOf, nodeCode}
 use Rattle.site.specs.Lists.{upTo, each}
-use Rattle.tables.specs.Bits.{bitOf, Has, IsTable}
 use Rattle.steps.specs.Tables.{Pair, writtenOf}
+use Rattle.tables.specs.Bits.{bitOf, Has, IsTable}
 
 -- an entry was there, or is one of the pairs
 pub data CamePair (pairs : List Pair) (old : List ℕ) (u v : ℕ) : Type 0 where

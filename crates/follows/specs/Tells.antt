@@ -9,8 +9,8 @@ use Rattle.site.specs.Kinds.Rule.{functional}
 use Rattle.site.specs.Codes.{roleOf, nodeOf}
 use Rattle.site.specs.Lists.{each}
 use Rattle.rules.specs.Lawful.{Lawful}
-use Rattle.tables.specs.Bits.{bitOf, has}
 use Rattle.steps.specs.Tables.{Pair, followsOf}
+use Rattle.tables.specs.Bits.{bitOf, has}
 use Rattle.follows.specs.Adding.{AddedAll}
 
 -- a table with nothing in it

@@ -1,8 +1,8 @@
 // The tables of a rule file, from its bytes.
 ghost use Rattle.site.specs.Lists.{each};
 ghost use Rattle.rules.specs.RuleFile.{rulesIn, siteOf};
-ghost use Rattle.tables.specs.Bits.{IsTable};
 ghost use Rattle.steps.specs.Tables.{arrowsOf};
+ghost use Rattle.tables.specs.Bits.{IsTable};
 ghost use Rattle.follows.specs.Adding.{AddedAll, exclusionsOf};
 ghost use Rattle.follows.specs.Tells.{Blank, FunctionalOf, Tells};
 use crate::says::add_arrows;

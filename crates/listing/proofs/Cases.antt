@@ -5,6 +5,7 @@ use mathlib.Core.Path.{_≡_, refl}
 use mathlib.Core.List.{List, [], _∷_, _++_, map}
 use Rattle.number.specs.Answer.{refusal}
 use Rattle.number.specs.Number.{formOf, second, third, numberAt}
+use Rattle.number.specs.declared.refusal.Refusal.{Refusal}
 use Rattle.site.specs.Codes.{roleOf, conceptOf, conceptDeclared, predicateDeclared}
 use Rattle.site.specs.Limits.{noPartner}
 use Rattle.site.specs.Lists.{upTo, any, count, first, each}
@@ -14,9 +15,8 @@ use Rattle.bundle.specs.Bundle.{factAt, factsFrom, factsIn, checkBundle, readBu
 use Rattle.steps.specs.Tables.{rolesOf, nodesOf, arrow, mates, find, rowsOf, looked, through, closure, apart, empty, excludes, functionalIn, excludedRows, followsFrom, followsOf}
 use Rattle.clashes.specs.Types.{typesOf}
 use Rattle.clashes.specs.Marks.{jar, split, meet, alone, contradict, clash, mark, partner, marks, partners, marked, counts}
-use Rattle.clean.specs.Operations.{given, roomForMarks, marking}
 use Rattle.clashes.specs.declared.answers.Counts.{Counts}
-use Rattle.number.specs.declared.refusal.Refusal.{Refusal}
+use Rattle.clean.specs.Operations.{given, roomForMarks, marking}
 use Rattle.listing.specs.Decimal.{digitsOf, decimalOf}
 use Rattle.listing.specs.Put.{named}
 use Rattle.listing.specs.Lines.{countsLine, markOf, factLine, placeOf, refusalLine}

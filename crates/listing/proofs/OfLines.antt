@@ -10,12 +10,12 @@ use borrow.Author.Tests.{eq-eqb, ne-eqb}
 use borrow.Author.Needs.{needs}
 use Rattle.number.specs.declared.refusal.Refusal.{Refusal}
 use Rattle.clashes.specs.declared.answers.Counts.{Counts}
-use Rattle.listing.specs.Decimal.{decimalOf}
-use Rattle.listing.specs.Put.{Laid, LaidNumber, LaidNamed, named}
-use Rattle.listing.specs.Lines.{factsWord, keptCount, aloneCount, disputedWord, keptWord, aloneWord, refusedWord, rulesWord, bundleWord, newline, countsLine, markOf, factLine, placeOf, refusalLine, LaidMark, LaidPlace, Line}
 use Rattle.operations.specs.Promises.{countedTold}
 use Rattle.operations.specs.declared.mark.Counted.{Counted}
 use Rattle.operations.specs.declared.mark.Counted.the-variants.{Counts as CountsAre, Refused as NotCounted}
+use Rattle.listing.specs.Decimal.{decimalOf}
+use Rattle.listing.specs.Put.{Laid, LaidNumber, LaidNamed, named}
+use Rattle.listing.specs.Lines.{factsWord, keptCount, aloneCount, disputedWord, keptWord, aloneWord, refusedWord, rulesWord, bundleWord, newline, countsLine, markOf, factLine, placeOf, refusalLine, LaidMark, LaidPlace, Line}
 use Rattle.listing.specs.Listing.{linesOf, lineAt}
 use Rattle.listing.proofs.OfPutting.{laid-both}
 

@@ -8,8 +8,8 @@ use lib.Dec.{eqb}
 use Rattle.number.specs.Answer.{Answer, over}
 use Rattle.number.specs.Answer.Answer.{gives, refuses}
 use Rattle.site.specs.Limits.{mostFacts}
-use Rattle.clean.specs.Operations.{marking}
 use Rattle.clashes.specs.declared.answers.Counts.{Counts}
+use Rattle.clean.specs.Operations.{marking}
 use Rattle.listing.specs.Lines.{countsLine, factLine, refusalLine}
 
 -- how many lines there are

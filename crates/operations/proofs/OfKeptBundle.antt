@@ -22,21 +22,21 @@ use Rattle.site.proofs.Lists.{length-keep, count-within}
 use Rattle.rules.specs.declared.head.Head.{Head}
 use Rattle.rules.specs.RuleFile.{siteOf}
 use Rattle.bundle.specs.Bundle.{factsOf, factBytes, bundleOf}
+use Rattle.bundle.specs.declared.facts.Facts.{Facts}
+use Rattle.bundle.specs.Opened.{Accepted}
 use Rattle.writer.specs.Records.{roomFor}
 use Rattle.writer.specs.declared.writing.BundleWrote.the-variants.{Written, Refused as NotWritten}
-use Rattle.bundle.specs.declared.facts.Facts.{Facts}
 use Rattle.writer.proofs.FactBytes.{sets-append}
 use Rattle.steps.specs.Tables.{Follows, followsOf}
 use Rattle.follows.specs.Tells.{Tells}
 use Rattle.clashes.specs.Types.{itself}
 use Rattle.clashes.specs.Marks.{marked, kept}
 use Rattle.clashes.specs.Coded.{bitsFollow}
+use Rattle.clashes.proofs.OfAgreement.{kept-same}
 use Rattle.clean.specs.Keeping.{keptBytes, measureOf, StoredKept}
 use Rattle.clean.specs.Operations.{keeping}
 use Rattle.clean.specs.declared.keep.Measure.{Measure}
-use Rattle.clashes.proofs.OfAgreement.{kept-same}
 use Rattle.clean.proofs.OfKeeping.{fact-short}
-use Rattle.bundle.specs.Opened.{Accepted}
 use Rattle.operations.specs.Promises.{WritesKept, StoresBundle}
 use Rattle.operations.proofs.OfOperations.{as-many, few, given-is, spoken, agree}
 

@@ -28,6 +28,10 @@ use Rattle.bundle.specs.Opened.{opening, Accepted, openedTold, openedRefusal}
 use Rattle.bundle.specs.declared.facts.Facts.{Facts}
 use Rattle.bundle.proofs.OfOpened.{opening-accepted}
 use Rattle.bundle.proofs.Accepted.{accepted-lawful as lawful-facts, accepted-count}
+use Rattle.bundle.specs.declared.open.Inputs.{Inputs}
+use Rattle.bundle.specs.declared.open.Opened.{Opened}
+use Rattle.bundle.specs.declared.open.Opened.the-variants.{Accepted as Ready, Refused as NotReady}
+use Rattle.writer.specs.declared.writing.BundleWrote.the-variants.{Refused as NotWritten}
 use Rattle.steps.specs.Tables.{Follows, followsOf}
 use Rattle.follows.specs.Tells.{Tells}
 use Rattle.follows.proofs.Telling.{excluded-coded, functional-coded}
@@ -35,19 +39,15 @@ use Rattle.clashes.specs.Types.{itself}
 use Rattle.clashes.specs.Marks.{mark, partner, marks, partners, counts}
 use Rattle.clashes.specs.Coded.{hasRole, bitsFollow}
 use Rattle.clashes.specs.Tally.{Marks}
-use Rattle.clean.specs.Operations.{given, roomForMarks, marking, counting, asking, having, joining, keeping}
-use Rattle.operations.specs.Promises.{countedTold, askedTold, repliedTold, MarksAll, WritesKept}
 use Rattle.clashes.specs.declared.answers.Counts.{Counts}
 use Rattle.clashes.specs.declared.answers.Judged.{Judged}
-use Rattle.bundle.specs.declared.open.Inputs.{Inputs}
-use Rattle.bundle.specs.declared.open.Opened.{Opened}
-use Rattle.bundle.specs.declared.open.Opened.the-variants.{Accepted as Ready, Refused as NotReady}
+use Rattle.clashes.proofs.OfAgreement.{Agree, AllSpoken, mark-same, partner-same, marks-same, partners-same, counts-same}
+use Rattle.clean.specs.Operations.{given, roomForMarks, marking, counting, asking, having, joining, keeping}
+use Rattle.operations.specs.Promises.{countedTold, askedTold, repliedTold, MarksAll, WritesKept}
 use Rattle.operations.specs.declared.mark.Counted.{Counted}
 use Rattle.operations.specs.declared.mark.Counted.the-variants.{Counts as CountsAre, Refused as NotCounted}
 use Rattle.operations.specs.declared.mark.Asked.the-variants.{Judged as JudgedSo, Refused as NotJudged}
 use Rattle.operations.specs.declared.question.Replied.the-variants.{Refused as NotReplied}
-use Rattle.writer.specs.declared.writing.BundleWrote.the-variants.{Refused as NotWritten}
-use Rattle.clashes.proofs.OfAgreement.{Agree, AllSpoken, mark-same, partner-same, marks-same, partners-same, counts-same}
 
 -- what opening gives or refuses
 abbrev packed : Head → Facts → Answer Inputs

@@ -6,28 +6,28 @@ use mathlib.Core.List.{List}
 use lib.ListN.{length}
 use Rattle.number.specs.Answer.{Answer, over, laid}
 use Rattle.number.specs.Answer.Answer.{gives, refuses}
+use Rattle.number.specs.Number.{bytesOf, threeBytes}
+use Rattle.site.specs.Limits.{mostFacts}
+use Rattle.site.specs.Kinds.{declared}
 use Rattle.rules.specs.declared.head.Head.{Head}
 use Rattle.rules.specs.RuleFile.{siteOf}
 use Rattle.bundle.specs.Bundle.{factsOf}
+use Rattle.bundle.specs.declared.facts.Facts.{Facts}
 use Rattle.writer.specs.Pushed.{wroteTold}
 use Rattle.writer.specs.declared.writing.BundleWrote.{BundleWrote}
-use Rattle.bundle.specs.declared.facts.Facts.{Facts}
-use Rattle.number.specs.Number.{bytesOf, threeBytes}
-use Rattle.site.specs.Limits.{mostFacts}
-use Rattle.clean.specs.Keeping.{keptBytes}
-use Rattle.site.specs.Kinds.{declared}
 use Rattle.steps.specs.Tables.{Follows, followsOf}
 use Rattle.clashes.specs.Types.{Typ as SaidTyp}
 use Rattle.clashes.specs.Coded.{code}
-use Rattle.clean.specs.Operations.{Reply, replyOf, marking, keeping}
-use Rattle.clean.specs.Operations.Reply.{yes-by, none}
 use Rattle.clashes.specs.declared.answers.Counts.{Counts}
 use Rattle.clashes.specs.declared.answers.Judged.{Judged}
+use Rattle.clashes.specs.declared.types.Typ.{Typ}
+use Rattle.clean.specs.Keeping.{keptBytes}
+use Rattle.clean.specs.Operations.{Reply, replyOf, marking, keeping}
+use Rattle.clean.specs.Operations.Reply.{yes-by, none}
 use Rattle.operations.specs.declared.mark.Counted.{Counted}
 use Rattle.operations.specs.declared.mark.Counted.the-variants.{Counts as CountsAre, Refused as NotCounted}
 use Rattle.operations.specs.declared.mark.Asked.{Asked}
 use Rattle.operations.specs.declared.mark.Asked.the-variants.{Judged as JudgedSo, Refused as NotJudged}
-use Rattle.clashes.specs.declared.types.Typ.{Typ}
 use Rattle.operations.specs.declared.question.Replied.{Replied}
 use Rattle.operations.specs.declared.question.Replied.the-variants.{Yes, No, Refused as NotReplied}
 

@@ -22,26 +22,26 @@ use Rattle.rules.proofs.Refusals.{refused-in-rules}
 use Rattle.bundle.proofs.Refusals.{refused-in-bundle}
 use Rattle.bundle.specs.Bundle.{Last, checkBundle, readBundle, factsOf, bundleOf}
 use Rattle.bundle.specs.Bundle.Last.{none, after}
-use Rattle.writer.specs.Records.{roomFor, recordFault, recordsFrom, planRecords}
-use Rattle.steps.specs.Tables.{Follows, followsOf}
-use Rattle.clean.specs.Operations.{Reply, given, roomForMarks, thingKnown, marking, counting, asking, having, joining, keeping}
-use Rattle.clean.specs.Operations.Reply.{yes-by, none as no-fact}
 use Rattle.bundle.specs.Opened.{opening}
+use Rattle.writer.specs.Records.{roomFor, recordFault, recordsFrom, planRecords}
 use Rattle.records.specs.Reading.{Found, readerStart, readerStep}
 use Rattle.records.specs.Reading.Found.{fact, done}
 use Rattle.records.specs.Rows.{factOf, handOut, handRecords, writeRow}
 use Rattle.records.specs.declared.record.Record.{Record}
-use Rattle.rows.specs.declared.reader.Reader.{Reader}
 use Rattle.records.proofs.OfReader.{step-refused-how}
+use Rattle.rows.specs.declared.reader.Reader.{Reader}
+use Rattle.steps.specs.Tables.{Follows, followsOf}
+use Rattle.clean.specs.Operations.{Reply, given, roomForMarks, thingKnown, marking, counting, asking, having, joining, keeping}
+use Rattle.clean.specs.Operations.Reply.{yes-by, none as no-fact}
+use Rattle.shown.specs.Shown.{refused, shownCounts, shownAsked, shownAnswer, shownLength, shownStart, shownYield}
+use Rattle.shown.specs.declared.shapes.DzyRefusal.{DzyRefusal}
+use Rattle.shown.specs.declared.shapes.DzyCounts.{DzyCounts}
+use Rattle.shown.specs.declared.shapes.DzyAsked.{DzyAsked}
+use Rattle.shown.specs.declared.shapes.DzyAnswer.{DzyAnswer}
+use Rattle.shown.specs.declared.shapes.DzyLength.{DzyLength}
+use Rattle.shown.specs.declared.shapes.DzyStart.{DzyStart}
+use Rattle.shown.specs.declared.shapes.DzyYield.{DzyYield}
 use Rattle.dzyunagor.specs.Promises.{CheckRules, CheckBundle, Mark, Count, Ask, Has, Joins, WriteKept, Records, WriteRecords, ReaderStart, ReaderNext}
-use Rattle.dzyunagor.specs.Shown.{refused, shownCounts, shownAsked, shownAnswer, shownLength, shownStart, shownYield}
-use Rattle.dzyunagor.specs.declared.shapes.DzyRefusal.{DzyRefusal}
-use Rattle.dzyunagor.specs.declared.shapes.DzyCounts.{DzyCounts}
-use Rattle.dzyunagor.specs.declared.shapes.DzyAsked.{DzyAsked}
-use Rattle.dzyunagor.specs.declared.shapes.DzyAnswer.{DzyAnswer}
-use Rattle.dzyunagor.specs.declared.shapes.DzyLength.{DzyLength}
-use Rattle.dzyunagor.specs.declared.shapes.DzyStart.{DzyStart}
-use Rattle.dzyunagor.specs.declared.shapes.DzyYield.{DzyYield}
 
 -- an answer whose refusal, if it is one, has a number from 1 on
 abbrev pub Numbered : {A : Type 0} → Answer A → Type 0

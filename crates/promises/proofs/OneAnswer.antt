@@ -5,13 +5,13 @@ use mathlib.Core.List.{List}
 use Rattle.number.proofs.One.{one, Same}
 use Rattle.records.specs.declared.record.Record.{Record}
 use Rattle.rows.specs.declared.reader.Reader.{Reader}
+use Rattle.shown.specs.declared.shapes.DzyCounts.{DzyCounts}
+use Rattle.shown.specs.declared.shapes.DzyAsked.{DzyAsked}
+use Rattle.shown.specs.declared.shapes.DzyAnswer.{DzyAnswer}
+use Rattle.shown.specs.declared.shapes.DzyLength.{DzyLength}
+use Rattle.shown.specs.declared.shapes.DzyStart.{DzyStart}
+use Rattle.shown.specs.declared.shapes.DzyYield.{DzyYield}
 use Rattle.dzyunagor.specs.Promises.{CheckRules, CheckBundle, Mark, Count, Ask, Has, Joins, WriteKept, Records, WriteRecords, ReaderStart, ReaderNext}
-use Rattle.dzyunagor.specs.declared.shapes.DzyCounts.{DzyCounts}
-use Rattle.dzyunagor.specs.declared.shapes.DzyAsked.{DzyAsked}
-use Rattle.dzyunagor.specs.declared.shapes.DzyAnswer.{DzyAnswer}
-use Rattle.dzyunagor.specs.declared.shapes.DzyLength.{DzyLength}
-use Rattle.dzyunagor.specs.declared.shapes.DzyStart.{DzyStart}
-use Rattle.dzyunagor.specs.declared.shapes.DzyYield.{DzyYield}
 
 module _ (rules : List ℕ) where
   pub one-check-rules : {r r′ : DzyLength} → CheckRules rules r → CheckRules rules r′ → r ≡ r′

@@ -8,12 +8,12 @@ use lib.ListN.{length, getD}
 use Rattle.number.specs.Answer.{over, laid}
 use Rattle.number.proofs.One.{Same}
 use Rattle.cases.proofs.Cases.{R, F}
+use Rattle.shown.specs.Shown.{notRefused, shownCounts, shownAsked, shownAnswer, shownLength}
+use Rattle.shown.specs.declared.shapes.DzyCounts.{DzyCounts}
+use Rattle.shown.specs.declared.shapes.DzyAsked.{DzyAsked}
+use Rattle.shown.specs.declared.shapes.DzyAnswer.{DzyAnswer}
+use Rattle.shown.specs.declared.shapes.DzyLength.{DzyLength}
 use Rattle.dzyunagor.specs.Promises.{Mark, Count, Ask, Has, Joins, WriteKept}
-use Rattle.dzyunagor.specs.Shown.{notRefused, shownCounts, shownAsked, shownAnswer, shownLength}
-use Rattle.dzyunagor.specs.declared.shapes.DzyCounts.{DzyCounts}
-use Rattle.dzyunagor.specs.declared.shapes.DzyAsked.{DzyAsked}
-use Rattle.dzyunagor.specs.declared.shapes.DzyAnswer.{DzyAnswer}
-use Rattle.dzyunagor.specs.declared.shapes.DzyLength.{DzyLength}
 use Rattle.promises.proofs.OneAnswer.{one-mark, one-count, one-ask, one-has, one-joins, one-write-kept, SameMarks}
 use Rattle.promises.proofs.WorkedSite.{oneUplink, worked, long, refusedWith, differ, differ-at, accepted}
 

@@ -10,11 +10,11 @@ use Rattle.records.specs.Reading.{Stepped, readerStep}
 use Rattle.records.specs.declared.record.Record.{Record}
 use Rattle.rows.specs.declared.reader.Reader.{Reader}
 use Rattle.cases.proofs.Cases.{R, F}
+use Rattle.shown.specs.Shown.{notRefused, noRecord, shownLength, shownStart, shownYield}
+use Rattle.shown.specs.declared.shapes.DzyLength.{DzyLength}
+use Rattle.shown.specs.declared.shapes.DzyStart.{DzyStart}
+use Rattle.shown.specs.declared.shapes.DzyYield.{DzyYield}
 use Rattle.dzyunagor.specs.Promises.{CheckRules, CheckBundle, Records, WriteRecords, ReaderStart, ReaderNext}
-use Rattle.dzyunagor.specs.Shown.{notRefused, noRecord, shownLength, shownStart, shownYield}
-use Rattle.dzyunagor.specs.declared.shapes.DzyLength.{DzyLength}
-use Rattle.dzyunagor.specs.declared.shapes.DzyStart.{DzyStart}
-use Rattle.dzyunagor.specs.declared.shapes.DzyYield.{DzyYield}
 use Rattle.promises.proofs.OneAnswer.{one-check-rules, one-check-bundle, one-records, one-write-records, one-reader-start, one-reader-next, SameStep}
 use Rattle.promises.proofs.WorkedSite.{twice, badRules, rec, six, badRow, worked, long, refusedWith, differ, differ-at, accepted}
 

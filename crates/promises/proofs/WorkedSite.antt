@@ -16,21 +16,21 @@ use Rattle.site.specs.Lists.{upTo, any, count, keep, first, each}
 use Rattle.site.specs.Items.{countAt, codeAt, endAt}
 use Rattle.rules.specs.RuleFile.{headOf, codeDeclared, ruleAt, rulesFrom, rulesIn, unbroken, afterRules, checkRules, siteOf}
 use Rattle.bundle.specs.Bundle.{factAt, factsFrom, factsIn, checkBundle, readBundle, factBytes, bundleOf}
-use Rattle.writer.specs.Records.{roomFor, recordFault, recordsFrom, planRecords}
-use Rattle.steps.specs.Tables.{rolesOf, nodesOf, arrow, mates, find, rowsOf, looked, through, closure, apart, empty, excludes, functionalIn, excludedRows, followsFrom, followsOf}
-use Rattle.clashes.specs.Types.{typesOf}
-use Rattle.clashes.specs.Marks.{jar, split, meet, alone, contradict, clash, mark, partner, marks, partners, marked, counts, kept, supports, support}
-use Rattle.clean.specs.Operations.{given, roomForMarks, marking, counting, asking, replyOf, having, joining, keeping}
-use Rattle.clean.specs.Operations.Reply.{yes-by, none}
-use Rattle.clashes.specs.declared.answers.Counts.{Counts}
-use Rattle.cases.proofs.Cases.{R, F}
 use Rattle.bundle.specs.Opened.{opening}
+use Rattle.writer.specs.Records.{roomFor, recordFault, recordsFrom, planRecords}
 use Rattle.records.specs.Reading.{readerStart, readerStep}
 use Rattle.records.specs.Reading.Found.{fact, done}
 use Rattle.records.specs.Rows.{handOut, handRecords, writeRow}
 use Rattle.records.specs.declared.record.Record.{Record}
-use Rattle.dzyunagor.specs.Shown.{notRefused}
-use Rattle.dzyunagor.specs.declared.shapes.DzyLength.{DzyLength}
+use Rattle.steps.specs.Tables.{rolesOf, nodesOf, arrow, mates, find, rowsOf, looked, through, closure, apart, empty, excludes, functionalIn, excludedRows, followsFrom, followsOf}
+use Rattle.clashes.specs.Types.{typesOf}
+use Rattle.clashes.specs.Marks.{jar, split, meet, alone, contradict, clash, mark, partner, marks, partners, marked, counts, kept, supports, support}
+use Rattle.clashes.specs.declared.answers.Counts.{Counts}
+use Rattle.clean.specs.Operations.{given, roomForMarks, marking, counting, asking, replyOf, having, joining, keeping}
+use Rattle.clean.specs.Operations.Reply.{yes-by, none}
+use Rattle.cases.proofs.Cases.{R, F}
+use Rattle.shown.specs.Shown.{notRefused}
+use Rattle.shown.specs.declared.shapes.DzyLength.{DzyLength}
 
 -- uplink(9,7) alone; Switch(7) twice; a functional role on the right of a kind 2 rule
 abbrev pub oneUplink : List ℕ

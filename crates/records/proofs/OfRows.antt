@@ -21,12 +21,12 @@ use Rattle.bundle.specs.Bundle.{Last, ascends, checkBundle, factsOf, predicateK
 use Rattle.bundle.specs.Bundle.Last.{none, after}
 use Rattle.bundle.specs.Lawful.{LawfulFact, LawfulFrom, LawfulFacts}
 use Rattle.bundle.specs.Lawful.LawfulFrom.{done, next as one-more}
-use Rattle.writer.specs.Records.{roomFor, recordFault, recordsFrom, planRecords}
 use Rattle.bundle.specs.declared.facts.Facts.{Facts}
 use Rattle.bundle.specs.Opened.{Accepted}
 use Rattle.bundle.proofs.Accepted.{accepted-lawful}
 use Rattle.bundle.proofs.OfOpened.{opening-given}
 use Rattle.bundle.proofs.RoundTrips.{writtenHead, written-accepted, written-facts, accepted-again}
+use Rattle.writer.specs.Records.{roomFor, recordFault, recordsFrom, planRecords}
 use Rattle.writer.proofs.Faults.{Sound, same-fault, lawful-sound}
 use Rattle.writer.proofs.Faults.Sound.{no-more, sound}
 use Rattle.records.specs.Rows.{recordOf, factOf, handOut, handRecords, writeRow}

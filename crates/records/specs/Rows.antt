@@ -9,8 +9,8 @@ use Rattle.site.specs.declared.fact.Fact.{Fact}
 use Rattle.rules.specs.RuleFile.{checkRules}
 use Rattle.bundle.specs.Bundle.{factAt, factsOf}
 use Rattle.bundle.specs.Opened.{opening}
-use Rattle.writer.specs.Records.{planRecords}
 use Rattle.bundle.specs.declared.facts.Facts.{Facts}
+use Rattle.writer.specs.Records.{planRecords}
 use Rattle.records.specs.declared.record.Record.{Record}
 use Rattle.records.specs.declared.hand.Taken.{Taken}
 

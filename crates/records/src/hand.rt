@@ -1,7 +1,7 @@
 // What is handed out of a bundle as a row of records: how many facts, from where, and each one's record.
 ghost use mathlib.Core.Path.{_≡_};
-ghost use Rattle.records.specs.Rows.{handOut, takeAt};
 ghost use Rattle.number.specs.Answer.Answer.{refuses};
+ghost use Rattle.records.specs.Rows.{handOut, takeAt};
 ghost use Rattle.records.specs.Told.{decided};
 use crate::answer::RowAnswer;
 use crate::record::Record;

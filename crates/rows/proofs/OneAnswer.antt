@@ -8,7 +8,6 @@ use Rattle.number.proofs.One.{one, undone, Same}
 use Rattle.records.specs.Reading.{Found, Stepped, readerStart, readerStep}
 use Rattle.records.specs.Reading.Found.{fact, done}
 use Rattle.records.specs.Told.{startTold, yieldTold, stepTold, Hands}
-use Rattle.rows.specs.Stepping.{Steps}
 use Rattle.records.specs.Written.{WritesRow}
 use Rattle.records.specs.declared.record.Record.{Record}
 use Rattle.records.specs.declared.step.Started.{Started}
@@ -16,8 +15,9 @@ use Rattle.records.specs.declared.step.Started.the-variants.{At, Refused as Ref
 use Rattle.records.specs.declared.step.Yield.{Yield}
 use Rattle.records.specs.declared.step.Yield.the-variants.{Fact, Refused as RefusedYield, Done}
 use Rattle.records.specs.declared.step.Step.{Step}
-use Rattle.rows.specs.declared.reader.Reader.{Reader}
 use Rattle.records.specs.declared.answer.RowAnswer.{RowAnswer}
+use Rattle.rows.specs.Stepping.{Steps}
+use Rattle.rows.specs.declared.reader.Reader.{Reader}
 
 start-back : Answer ℕ → Started
 start-back (gives at) = At at

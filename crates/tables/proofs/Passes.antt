@@ -8,10 +8,10 @@ use native.Mathlib.Omega.{arith}
 use native.Mathlib.Decide.{ℕ-discrete}
 use borrow.Author.Tests.{lt-ltb, le-ltb, not-true, not-false}
 use borrow.Author.Needs.{needs}
+use Rattle.steps.specs.Closed.Closed.{here, one, on}
 use Rattle.tables.specs.Bits.{has, Has, IsTable, Added, CameAdded, Joined, CameJoined}
 use Rattle.tables.specs.Bits.CameAdded.{old-one, new-one}
 use Rattle.tables.specs.Bits.CameJoined.{old-one as old-join, from-row}
-use Rattle.steps.specs.Closed.Closed.{here, one, on}
 use Rattle.tables.specs.Listed.{countOf, nodeAt, Listed}
 use Rattle.tables.specs.Passes.{Through, Pulled, PassedTo, Passed, CameReflected, ReflectedTo, Reflected, Within, Reach, TurnedTo, Turned, Closes}
 use Rattle.tables.specs.Passes.Through.{at-once, by-way}

@@ -2,8 +2,8 @@
 use Prim.Native.Nat.{ℕ, _<_}
 use mathlib.Core.Path.{_≡_}
 use mathlib.Core.List.{List}
-use Rattle.tables.specs.Bits.{Has, IsTable}
 use Rattle.steps.specs.Closed.{Closed}
+use Rattle.tables.specs.Bits.{Has, IsTable}
 use Rattle.tables.specs.Listed.{countOf, nodeAt, Listed}
 
 -- from u to v in the table, at once or by way of m

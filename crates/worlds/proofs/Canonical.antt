@@ -15,9 +15,9 @@ use Rattle.rules.specs.Lawful.{Lawful}
 use Rattle.steps.specs.Tables.{Follows}
 use Rattle.steps.specs.Decides.{Decides}
 use Rattle.clashes.specs.Types.{Typ, typesOf}
-use Rattle.worlds.specs.Worlds.{World, Names, Joins, Is, Says, Holds, WorldOf}
 use Rattle.clashes.proofs.OfTypes.{TypeOf, listed-of, of-listed}
 use Rattle.clashes.proofs.OfTypes.TypeOf.{is-a, joins}
+use Rattle.worlds.specs.Worlds.{World, Names, Joins, Is, Says, Holds, WorldOf}
 use Rattle.worlds.proofs.Chase.{Element, Link, Blocks, Partnered, chased, joins-link, is-has, obeys-all}
 use Rattle.worlds.proofs.Chase.Element.{device, child}
 use Rattle.worlds.proofs.Chase.Link.{told, up}

@@ -13,9 +13,9 @@ use Rattle.rules.specs.Lawful.{Lawful}
 use Rattle.steps.specs.Tables.{Follows}
 use Rattle.steps.specs.Decides.{Decides}
 use Rattle.clashes.specs.Marks.{contradict}
+use Rattle.clashes.proofs.OfTypes.{contradict-against, against-contradict}
 use Rattle.worlds.specs.Worlds.{Consistent}
 use Rattle.worlds.proofs.OfLists.{Within}
-use Rattle.clashes.proofs.OfTypes.{contradict-against, against-contradict}
 use Rattle.worlds.proofs.Sound.{Near, against-never}
 use Rattle.worlds.proofs.Told.{Peaceful, Spoken}
 use Rattle.worlds.proofs.Canonical.{canonical, canonical-world}

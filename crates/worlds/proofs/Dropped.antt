@@ -12,13 +12,13 @@ use Rattle.rules.specs.Lawful.{Lawful}
 use Rattle.steps.specs.Tables.{Follows}
 use Rattle.steps.specs.Decides.{Decides}
 use Rattle.clashes.specs.Marks.{alone, clash, mark, kept}
-use Rattle.worlds.specs.Worlds.{Consistent, LeftOut}
-use Rattle.worlds.proofs.OfLists.{Within, within-cons, within-nil}
 use Rattle.clashes.proofs.OfClash.{clash-is}
 use Rattle.clashes.proofs.OfMarks.{MarkOf, mark-of, mark-0}
 use Rattle.clashes.proofs.OfMarks.MarkOf.{is-kept, is-alone, is-disputed}
 use Rattle.clashes.proofs.OfKept.{kept-is}
 use Rattle.clashes.proofs.OfTypes.{Against, contradict-against, against-contradict, alone-against, against-alone}
+use Rattle.worlds.specs.Worlds.{Consistent, LeftOut}
+use Rattle.worlds.proofs.OfLists.{Within, within-cons, within-nil}
 use Rattle.worlds.proofs.Told.{Peaceful, peaceful-nil, peaceful-cons}
 use Rattle.worlds.proofs.Repairs.{Spoils, spoils-left-out, left-out-spoils}
 use Rattle.worlds.proofs.Consistency.{AllFit, consistent-peaceful, peaceful-consistent, fewer-consistent, decide-consistent}

@@ -15,10 +15,10 @@ use Rattle.steps.specs.Steps.SaysIncluded.{kind-0, kind-2}
 use Rattle.steps.specs.Steps.SaysExcluded.{kind-1, kind-3}
 use Rattle.steps.specs.Steps.Included.{step-1, step-2, step-3, step-4}
 use Rattle.steps.specs.Steps.Excluded.{step-5, step-6, step-7, step-8}
-use Rattle.worlds.specs.Worlds.{World, Names, Joins, Is, Obeys, Says, Holds}
 use Rattle.clashes.proofs.OfTypes.{TypeOf, Against}
 use Rattle.clashes.proofs.OfTypes.TypeOf.{is-a, has, had, joins, joined}
 use Rattle.clashes.proofs.OfTypes.Against.{jars, splits}
+use Rattle.worlds.specs.Worlds.{World, Names, Joins, Is, Obeys, Says, Holds}
 
 -- a node holds of an ordered pair; a concept, of its first thing
 abbrev pub At : (w : World) → Node → w .Thing → w .Thing → Type 0

@@ -21,9 +21,9 @@ use Rattle.bundle.specs.Bundle.{Last, ascends, factAt, factsFrom, factsIn, chec
 use Rattle.bundle.specs.Bundle.Last.{none, after}
 use Rattle.bundle.specs.Lawful.{LawfulFrom}
 use Rattle.bundle.specs.Lawful.LawfulFrom.{done, next}
-use Rattle.writer.specs.Records.{roomFor, recordFault, recordsFrom, planRecords}
 use Rattle.bundle.proofs.Cases.{fact}
 use Rattle.bundle.proofs.RoundTrips.{written-read}
+use Rattle.writer.specs.Records.{roomFor, recordFault, recordsFrom, planRecords}
 
 -- rules of so many concepts and roles, and of no rules
 abbrev pub with : ℕ → ℕ → Head

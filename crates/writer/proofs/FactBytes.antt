@@ -17,11 +17,11 @@ use Rattle.number.specs.declared.refusal.Refusal.{Refusal}
 use Rattle.number.specs.declared.write.Wrote.{Wrote}
 use Rattle.number.specs.declared.write.Wrote.the-variants.{Next, Refused}
 use Rattle.number.proofs.Laws.{at-most-three}
+use Rattle.number.proofs.Answers.{never, given-once as same-given}
 use Rattle.site.specs.declared.fact.Fact.{Fact}
 use Rattle.site.specs.Kinds.{ofConcept}
 use Rattle.bundle.specs.Bundle.{factBytes}
 use Rattle.writer.specs.Pushed.{StoresFact, StoredFact}
-use Rattle.number.proofs.Answers.{never, given-once as same-given}
 
 -- the size of a fact
 module _ (v w : ℕ) where

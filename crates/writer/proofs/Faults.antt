@@ -18,11 +18,11 @@ use Rattle.bundle.specs.Bundle.{Last, ascends, factBytes, predicateKnown}
 use Rattle.bundle.specs.Bundle.Last.{after}
 use Rattle.bundle.specs.Lawful.{LawfulFact, LawfulFrom}
 use Rattle.bundle.specs.Lawful.LawfulFrom.{done, next as one-more}
-use Rattle.writer.specs.Records.{recordFault, recordsFrom}
 use Rattle.bundle.specs.Told.{lastOf, afterFact}
+use Rattle.bundle.proofs.Longest.{declared-low}
+use Rattle.writer.specs.Records.{recordFault, recordsFrom}
 use Rattle.writer.specs.Pushed.{faultOf, stopped, counted, judged, settled, placed, stateAfter}
 use Rattle.writer.specs.declared.writing.Writing.{Writing}
-use Rattle.bundle.proofs.Longest.{declared-low}
 
 -- the fact before, after a fact
 pub after-fact : (f : Fact) → lastOf (afterFact f) ≡ after f

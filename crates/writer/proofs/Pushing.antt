@@ -12,6 +12,7 @@ use borrow.Author.Tests.{lt-ltb, le-ltb, le-leb, leb-true, leb-false}
 use Rattle.number.specs.Answer.{over}
 use Rattle.number.specs.Answer.Answer.{gives}
 use Rattle.number.proofs.Writing.{picked}
+use Rattle.number.proofs.Answers.{never}
 use Rattle.site.specs.declared.fact.Fact.{Fact}
 use Rattle.site.specs.Limits.{mostFacts, mostRoles}
 use Rattle.site.specs.Lists.{each}
@@ -19,11 +20,10 @@ use Rattle.site.proofs.Lists.{or-left}
 use Rattle.rules.specs.declared.head.Head.{Head}
 use Rattle.bundle.specs.Bundle.{Last, factBytes}
 use Rattle.bundle.specs.Bundle.Last.{after}
-use Rattle.writer.specs.Records.{recordFault, recordsFrom}
 use Rattle.bundle.specs.Told.{lastOf}
+use Rattle.writer.specs.Records.{recordFault, recordsFrom}
 use Rattle.writer.specs.Pushed.{faultOf, counted, judged, settled, shortened, movedTo, placed, storedBy, stateAfter, memoryAfter}
 use Rattle.writer.specs.declared.writing.Writing.{Writing}
-use Rattle.number.proofs.Answers.{never}
 use Rattle.writer.proofs.FactBytes.{sets-append}
 use Rattle.writer.proofs.Faults.{after-fact, same-fault, Sound, placed-judging, judged-next, state-counted, records-next, records-stop}
 use Rattle.writer.proofs.Faults.Sound.{no-more, sound}

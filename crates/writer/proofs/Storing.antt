@@ -22,10 +22,10 @@ use Rattle.site.specs.Limits.{mostFacts, mostNumber, mostThing}
 use Rattle.site.proofs.Lists.{same-test}
 use Rattle.rules.specs.declared.head.Head.{Head}
 use Rattle.bundle.specs.Bundle.{Last, ascends, factBytes, predicateKnown}
-use Rattle.writer.specs.Records.{recordFault}
 use Rattle.bundle.specs.Told.{lastOf, beforeFirst, afterFact}
-use Rattle.writer.specs.Pushed.{StoresFact, StoredFact, started, overfull, startOf, faultOf, stopped, judged, settled, shortened, movedTo, placed, storedBy, Pushes, closed, secondStart, countStored, Begins, answerOf}
 use Rattle.bundle.specs.declared.before.Before.{Before}
+use Rattle.writer.specs.Records.{recordFault}
+use Rattle.writer.specs.Pushed.{StoresFact, StoredFact, started, overfull, startOf, faultOf, stopped, judged, settled, shortened, movedTo, placed, storedBy, Pushes, closed, secondStart, countStored, Begins, answerOf}
 use Rattle.writer.specs.declared.writing.Writing.{Writing}
 use Rattle.writer.proofs.FactBytes.{two-fit, three-fit, concept-size, role-size, put-next, put-refused, first-fits, second-fits, concept-stored, third-fits, role-stored}
 

@@ -19,10 +19,10 @@ use Rattle.site.proofs.Lists.{or-left}
 use Rattle.rules.specs.declared.head.Head.{Head}
 use Rattle.bundle.specs.Bundle.{factBytes, bundleOf}
 use Rattle.bundle.specs.Bundle.Last.{none}
+use Rattle.bundle.proofs.Reading.{before-first}
 use Rattle.writer.specs.Records.{roomFor, recordsFrom, planRecords}
 use Rattle.writer.specs.Pushed.{started, overfull, startOf, stopped, settled, placed, storedBy, stateAfter, memoryAfter, secondStart, countStored, answerOf, firstState, lastState, lastMemory}
 use Rattle.writer.specs.declared.writing.Writing.{Writing}
-use Rattle.bundle.proofs.Reading.{before-first}
 use Rattle.writer.proofs.FactBytes.{sets-append}
 use Rattle.writer.proofs.Faults.{Sound, placed-stays, judged-stays, stays, judgedOf, pass-judges}
 use Rattle.writer.proofs.Pushing.{or-rest, Passed, pass-measures, memory-next, pass-stores, sound-records}

@@ -13,8 +13,8 @@ use Rattle.site.specs.declared.fact.Fact.{Fact}
 use Rattle.site.specs.Limits.{mostFacts, mostNumber}
 use Rattle.rules.specs.declared.head.Head.{Head}
 use Rattle.bundle.specs.Bundle.{Last, factBytes}
-use Rattle.writer.specs.Records.{recordFault}
 use Rattle.bundle.specs.Told.{lastOf, beforeFirst, afterFact}
+use Rattle.writer.specs.Records.{recordFault}
 use Rattle.writer.specs.declared.writing.Writing.{Writing}
 use Rattle.writer.specs.declared.writing.BundleWrote.{BundleWrote}
 use Rattle.writer.specs.declared.writing.BundleWrote.the-variants.{Written, Refused}

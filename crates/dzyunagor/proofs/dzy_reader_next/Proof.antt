@@ -11,22 +11,22 @@ use Rattle.records.specs.Told.{yieldTold}
 use Rattle.rows.specs.Stepping.{Steps}
 use Rattle.rows.specs.declared.reader.Reader.{Reader}
 use Rattle.records.specs.declared.step.Yield.{Yield}
-use Rattle.dzyunagor.specs.Shown.{shownYield}
-use Rattle.dzyunagor.specs.declared.shapes.DzyYield.{DzyYield}
+use Rattle.shown.specs.Shown.{shownYield}
+use Rattle.shown.specs.declared.shapes.DzyYield.{DzyYield}
 use Rattle.dzyunagor.proofs.OfRecords.{reader-stepped}
 use Rattle.rows.proofs.reader.Reader as T
 use Rattle.records.proofs.step.Yield as Y
 use Rattle.records.proofs.step.Yield.Laws as Y′
-use Rattle.dzyunagor.proofs.shapes.DzyYield as D
-use Rattle.dzyunagor.proofs.shapes.DzyYield.Laws as D′
+use Rattle.shown.proofs.shapes.DzyYield as D
+use Rattle.shown.proofs.shapes.DzyYield.Laws as D′
 use Rattle.rows.proofs.next as next
 use Rattle.rows.proofs.next.Symbol as next-def
 use Rattle.rows.proofs.next.Symbol.{name as #next}
 use Rattle.rows.proofs.next.Met as next-thm
-use Rattle.dzyunagor.proofs.show.show_yield as show
-use Rattle.dzyunagor.proofs.show.show_yield.Symbol as show-def
-use Rattle.dzyunagor.proofs.show.show_yield.Symbol.{name as #show}
-use Rattle.dzyunagor.proofs.show.show_yield.Met as show-thm
+use Rattle.shown.proofs.show_yield as show
+use Rattle.shown.proofs.show_yield.Symbol as show-def
+use Rattle.shown.proofs.show_yield.Symbol.{name as #show}
+use Rattle.shown.proofs.show_yield.Met as show-thm
 use Rattle.dzyunagor.proofs.dzy_reader_next.Key.{name as #face}
 use Rattle.dzyunagor.proofs.dzy_reader_next as face
 use Rattle.dzyunagor.proofs.dzy_reader_next.Statement.{statement}
@@ -123,4 +123,4 @@ dzy-reader-next-spec 𝓤 H 𝓜 𝓖 𝓡 =
     close 𝓤 H 𝓜 𝓖 𝓡 face.ended stayed (face.clauses 𝓤 H (𝓖 .A) (𝓜 .mem) (𝓡 .run)) (λ W. (goes-gave-ref 𝓤 H (𝓖 .A) W 2 0 tt behind, tt)) code.env #face code.function (code.unfolded 𝓤 H 𝓜 𝓡)
     (λ W. walks 𝓤 H (𝓖 .A) W (𝓜 .mem) (𝓡 .run) (tablesOf 𝓤 H 𝓜 (tables 𝓤 H 𝓜 𝓡 code.env))
     (cited 𝓤 H (Next 𝓤 H (𝓖 .A) (𝓜 .mem) (𝓡 .run)) 𝓜 𝓡 code.env #next next-def.routine code.calls-rows·next (next-thm.met 𝓤 H 𝓜 𝓖 𝓡))
-    (cited 𝓤 H (Show 𝓤 H (𝓖 .A) (𝓜 .mem) (𝓡 .run)) 𝓜 𝓡 code.env #show show-def.routine code.calls-dzyunagor·show·show-yield (show-thm.met 𝓤 H 𝓜 𝓖 𝓡)))
+    (cited 𝓤 H (Show 𝓤 H (𝓖 .A) (𝓜 .mem) (𝓡 .run)) 𝓜 𝓡 code.env #show show-def.routine code.calls-shown·show-yield (show-thm.met 𝓤 H 𝓜 𝓖 𝓡)))

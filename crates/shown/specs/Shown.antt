@@ -4,22 +4,22 @@ use lib.ListN.{length}
 use Rattle.number.specs.Answer.{Answer}
 use Rattle.number.specs.Answer.Answer.{gives, refuses}
 use Rattle.number.specs.declared.refusal.Refusal.{Refusal}
-use Rattle.clean.specs.Operations.{Reply}
-use Rattle.clean.specs.Operations.Reply.{yes-by, none}
-use Rattle.clashes.specs.declared.answers.Counts.{Counts}
-use Rattle.clashes.specs.declared.answers.Judged.{Judged}
 use Rattle.records.specs.Reading.{Found}
 use Rattle.records.specs.Reading.Found.{fact, done}
 use Rattle.records.specs.Rows.{recordOf}
 use Rattle.records.specs.declared.record.Record.{Record}
 use Rattle.records.specs.declared.answer.RowAnswer.{RowAnswer}
-use Rattle.dzyunagor.specs.declared.shapes.DzyRefusal.{DzyRefusal}
-use Rattle.dzyunagor.specs.declared.shapes.DzyCounts.{DzyCounts}
-use Rattle.dzyunagor.specs.declared.shapes.DzyAsked.{DzyAsked}
-use Rattle.dzyunagor.specs.declared.shapes.DzyAnswer.{DzyAnswer}
-use Rattle.dzyunagor.specs.declared.shapes.DzyLength.{DzyLength}
-use Rattle.dzyunagor.specs.declared.shapes.DzyStart.{DzyStart}
-use Rattle.dzyunagor.specs.declared.shapes.DzyYield.{DzyYield}
+use Rattle.clashes.specs.declared.answers.Counts.{Counts}
+use Rattle.clashes.specs.declared.answers.Judged.{Judged}
+use Rattle.clean.specs.Operations.{Reply}
+use Rattle.clean.specs.Operations.Reply.{yes-by, none}
+use Rattle.shown.specs.declared.shapes.DzyRefusal.{DzyRefusal}
+use Rattle.shown.specs.declared.shapes.DzyCounts.{DzyCounts}
+use Rattle.shown.specs.declared.shapes.DzyAsked.{DzyAsked}
+use Rattle.shown.specs.declared.shapes.DzyAnswer.{DzyAnswer}
+use Rattle.shown.specs.declared.shapes.DzyLength.{DzyLength}
+use Rattle.shown.specs.declared.shapes.DzyStart.{DzyStart}
+use Rattle.shown.specs.declared.shapes.DzyYield.{DzyYield}
 
 -- no refusal
 abbrev pub notRefused : DzyRefusal

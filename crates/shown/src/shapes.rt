@@ -1,6 +1,6 @@
 // The answers as C sees them: plain structs by value, with zeros in the fields that do not apply.
 ghost use mathlib.Core.Path.{_≡_};
-ghost use Rattle.dzyunagor.specs.Shown.{notRefused, refused};
+ghost use Rattle.shown.specs.Shown.{notRefused, refused};
 use number::Refusal;
 use records::Record;
 

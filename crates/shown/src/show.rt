@@ -1,9 +1,9 @@
 // An answer turned into the struct that C sees.
 ghost use mathlib.Core.Path.{_≡_};
 ghost use Rattle.writer.specs.Pushed.{wroteTold};
-ghost use Rattle.operations.specs.Promises.{countedTold, askedTold, repliedTold};
 ghost use Rattle.records.specs.Told.{startTold, yieldTold};
-ghost use Rattle.dzyunagor.specs.Shown.{shownCounts, shownAsked, shownAnswer, shownLength, shownRow, shownStart, shownYield, noRecord};
+ghost use Rattle.operations.specs.Promises.{countedTold, askedTold, repliedTold};
+ghost use Rattle.shown.specs.Shown.{shownCounts, shownAsked, shownAnswer, shownLength, shownRow, shownStart, shownYield, noRecord};
 use crate::shapes::DzyAnswer;
 use crate::shapes::DzyAsked;
 use crate::shapes::DzyCounts;
