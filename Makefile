@@ -22,7 +22,7 @@ bench:
 	@KEEP=$(KEEP) bench/run.sh
 
 help:
-	@echo "make run                  the worked site, cleaned: about 4 minutes the first time, then at once"
+	@echo "make run                  the worked site, cleaned: about 5 minutes the first time, then at once"
 	@echo "make test                 the whole gate: every proof, every wrong version, every test"
 	@echo "make fuzz N=1000000       so many more damaged inputs, and a tenth as many random sites"
 	@echo "make bench                ratios beside plain Rust and SQL, printed; KEEP=1 writes bench/RESULTS.md"

@@ -24,7 +24,7 @@ fi
 tools/need.sh rt || exit 2
 tools/toolchain.sh >&2
 tools/prove.sh check cleaner \
-  "Cleans the worked site, by a program that is first proved and built: about 4 minutes on two cores, the first time." \
+  "Cleans the worked site, by a program that is first proved and built: about 5 minutes on two cores, the first time." \
   tests/run-worked-site.sh before || exit 1
 root=$PWD
 cd crates/cleaner/data && "$root/tools/x86.sh" run "$root/target/bin/cleaner"
