@@ -3,6 +3,7 @@ pub mod BySteps
 pub mod Computed
 pub mod Demands
 pub mod Exactly
+pub mod Files
 pub mod FirstDemand
 pub mod ReaderYields
 pub mod RoundTrips

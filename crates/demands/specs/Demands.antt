@@ -8,8 +8,9 @@ use mathlib.Core.List.{List, [], _∷_, _++_, map}
 use lib.ListN.{length, getD, take, replicate}
 use denote.Ref.{now}
 use Rattle.number.specs.Answer.{Read, refusal, laid}
-use Rattle.number.specs.Answer.Answer.{gives}
+use Rattle.number.specs.Answer.Answer.{gives, refuses}
 use Rattle.number.specs.Number.{numberAt}
+use Rattle.number.specs.declared.refusal.Refusal.{Refusal}
 use Rattle.site.specs.Codes.{conceptOf, roleOf, conceptDeclared, roleDeclared}
 use Rattle.site.specs.Kinds.{Site}
 use Rattle.site.specs.Kinds.Node.{concept, role}
@@ -19,6 +20,7 @@ use Rattle.rules.specs.RuleFile.{checkRules, siteOf}
 use Rattle.rules.specs.declared.head.Head.{Head}
 use Rattle.bundle.specs.Bundle.{readBundle, bundleOf}
 use Rattle.bundle.specs.Lawful.{LawfulFacts}
+use Rattle.bundle.specs.Opened.{opening}
 use Rattle.records.specs.Reading.Found.{fact, done}
 use Rattle.records.specs.Rows.{factOf}
 use Rattle.records.specs.declared.record.Record.{Record}
@@ -89,6 +91,22 @@ module _ (rules bundle : List ℕ) where
     pub records : (row row′ : List Record) (r : DzyLength) → Records rules bundle row r row′ → Refused (r .refused) → row′ ≡ row
     pub write-records : (row : List Record) (out out′ : List ℕ) (r : DzyLength) → WriteRecords rules row out r out′ → Refused (r .refused) → out′ ≡ out
     pub reader-next : (before left : Reader) (r : DzyYield) → ReaderNext before r left → Refused (r .refused) → left ≡ before
+
+  -- files that are not read are refused, and every operation gives that refusal: "rules, then bundle, then arguments, then room"
+  pub record RefusesFiles (q : Refusal) : Type 0 where
+    pub check-bundle : (r : DzyLength) → CheckBundle rules bundle r → r .refused ≡ refused q
+    pub mark : (marks partners marks′ partners′ : List ℕ) (r : DzyCounts) → Mark rules bundle marks partners r marks′ partners′ → r .refused ≡ refused q
+    pub count : (r : DzyCounts) → Count rules bundle r → r .refused ≡ refused q
+    pub ask : (k : ℕ) (r : DzyAsked) → Ask rules bundle k r → r .refused ≡ refused q
+    pub has : (code thing : ℕ) (r : DzyAnswer) → Has rules bundle code thing r → r .refused ≡ refused q
+    pub joins : (code from to : ℕ) (r : DzyAnswer) → Joins rules bundle code from to r → r .refused ≡ refused q
+    pub write-kept : (out out′ : List ℕ) (r : DzyLength) → WriteKept rules bundle out r out′ → r .refused ≡ refused q
+    pub records : (row row′ : List Record) (r : DzyLength) → Records rules bundle row r row′ → r .refused ≡ refused q
+    pub reader-start : (r : DzyStart) → ReaderStart rules bundle r → r .refused ≡ refused q
+
+  -- both files are read, or there is one refusal of them
+  abbrev pub ReadOrRefused : Type 0
+  ReadOrRefused = BothRead rules bundle ⊎ ((q : Refusal) × (opening rules bundle ≡ refuses q) × RefusesFiles q)
 
   -- "A bundle over a limit is refused and never shortened. Reason: support has to know that it holds all of it."
   pub record OverLimits : Type 0 where
@@ -239,6 +257,7 @@ pub record Demands : Type 2 where
   pub face : Face
   pub one-answer : (rules bundle : List ℕ) → OneAnswer rules bundle
   pub writes-nothing : (rules bundle : List ℕ) → WritesNothing rules bundle
+  pub read-or-refused : (rules bundle : List ℕ) → ReadOrRefused rules bundle
   pub refuses-exactly : {rules bundle : List ℕ} (a : BothRead rules bundle) → RefusesExactly a
   pub over-limits : (rules bundle : List ℕ) → OverLimits rules bundle
   pub as-document-01 : {rules bundle : List ℕ} (a : BothRead rules bundle) → AsDocument01 a
