@@ -2,7 +2,7 @@
 -- that reading gives.
 use Prim.Native.Nat.{ℕ}
 use mathlib.Core.Path.{_≡_, refl, sym, ap, _∙_}
-use mathlib.Core.Logic.{_⊎_, inl, inr}
+use mathlib.Core.Logic.{inl, inr}
 use mathlib.Core.List.{List}
 use lib.ListN.{length}
 use Rattle.number.specs.Answer.{Answer, _then_, over}
@@ -29,7 +29,7 @@ use Rattle.shown.specs.declared.shapes.DzyAsked.{DzyAsked}
 use Rattle.shown.specs.declared.shapes.DzyAnswer.{DzyAnswer}
 use Rattle.shown.specs.declared.shapes.DzyLength.{DzyLength}
 use Rattle.shown.specs.declared.shapes.DzyStart.{DzyStart}
-use Rattle.demands.specs.Demands.{BothRead, RefusesFiles, ReadOrRefused}
+use Rattle.demands.specs.Demands.{RefusesFiles, ReadOrRefused}
 
 module _ (rules bundle : List ℕ) (q : Refusal) (e : opening rules bundle ≡ refuses q) where
   -- whatever is asked of the files, their refusal is the answer
