@@ -7,7 +7,7 @@ cd "$(dirname "$0")/.." || exit 2
 work=$(mktemp -d)
 trap 'rm -rf "$work"' EXIT
 export DESTDIR=$work/dest
-prefix=/opt/dzyunagor
+prefix=/usr/dzyunagor
 root=$DESTDIR$prefix
 documents=$root/share/doc/dzyunagor
 bad=0
