@@ -10,18 +10,8 @@ export DESTDIR=$work/dest
 prefix=/usr/dzyunagor
 root=$DESTDIR$prefix
 documents=$root/share/doc/dzyunagor
-bad=0
-
-try() {
-  local name=$1
-  shift
-  if "$@"; then
-    echo "ok: $name"
-  else
-    echo "FAILED: $name"
-    bad=1
-  fi
-}
+# shellcheck source=tests/try.sh
+. tests/try.sh
 
 pkg() {
   PKG_CONFIG_LIBDIR=$root/lib/pkgconfig PKG_CONFIG_SYSROOT_DIR=$DESTDIR pkg-config "$@" dzyunagor
@@ -75,4 +65,4 @@ try "the installed site cleans the worked site" cleans
 try "every document that is cited is installed" cited
 try "make uninstall" make -s uninstall PREFIX="$prefix"
 try "nothing is left" nothing_left
-exit "$bad"
+exit "$failed"

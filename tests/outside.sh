@@ -3,19 +3,8 @@
 # Each prints its own counts; a line 'ok: ..' follows each that passes, and the status is not 0 if any does not.
 set -u
 cd "$(dirname "$0")/.." || exit 2
-failed=0
-
-try() {
-  local name=$1
-  shift
-  if "$@"; then
-    echo "ok: $name"
-  else
-    echo "FAILED: $name"
-    failed=1
-  fi
-}
-
+# shellcheck source=tests/try.sh
+. tests/try.sh
 # shellcheck source=tests/reach.sh
 . tests/reach.sh
 [ "$(uname -m)" = x86_64 ] || tools/not-run.sh "the C boundary under the address sanitizer" \
