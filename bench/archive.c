@@ -29,7 +29,7 @@ int main(int argc, char **argv) {
   if (argc != 4) return 2;
   size_t rules_length = read_file(argv[1], rules), bundle_length = read_file(argv[2], bundle);
   double best = 1e9;
-  dzy_counts counts = {{0, 0, 0}, 0, 0, 0, 0};
+  dzy_counts counts = {{0, 0, 0, 0}, 0, 0, 0, 0};
   for (int turn = atoi(argv[3]); turn > 0; turn--) {
     double start = now();
     counts = dzy_mark(rules, rules_length, bundle, bundle_length, marks, DZY_MOST_FACTS, partners, DZY_MOST_FACTS);

@@ -24,10 +24,10 @@ extern "C" {
 #endif
 
 /* The version of this interface: a new major one breaks callers, a new minor one adds to it (CHANGES.md). */
-#define DZY_VERSION_MAJOR 1
+#define DZY_VERSION_MAJOR 2
 #define DZY_VERSION_MINOR 0
 #define DZY_VERSION_PATCH 0
-#define DZY_VERSION "1.0.0"
+#define DZY_VERSION "2.0.0"
 
 /* The most facts of a bundle: a row of so many marks, partners or records is never too short. */
 #define DZY_MOST_FACTS 4096
@@ -40,6 +40,9 @@ extern "C" {
 
 /* The partner of a fact that has none. */
 #define DZY_NO_PARTNER 65535
+
+/* The item of a refusal in a file's counts or after its last rule or fact, on side 2, or of dzy_reader_next: none. */
+#define DZY_NO_ITEM 65535
 
 /* Marks of facts. */
 #define DZY_KEPT 0
@@ -62,6 +65,8 @@ extern "C" {
 #define DZY_ORDER 8
 #define DZY_ROOM 9
 #define DZY_NO_FACT 10
+#define DZY_KIND 11
+#define DZY_OBJECT 12
 
 /* What a refusal's number means. */
 static inline const char *dzy_refusal_text(uint32_t number)
@@ -72,21 +77,24 @@ static inline const char *dzy_refusal_text(uint32_t number)
     case DZY_LONG: return "a number of more than one byte, the last of them 0";
     case DZY_OVER: return "a third byte with its top bit set, or a value over 65,535";
     case DZY_TOO_MANY: return "a count over its limit";
-    case DZY_UNKNOWN: return "a rule kind over 4, a concept or role that is not declared, or a concept record whose object is not 0";
+    case DZY_UNKNOWN: return "a concept or role that is not declared";
     case DZY_BROKEN: return "a functional role on the right of a kind 2 rule";
     case DZY_AFTER: return "bytes after the last item";
     case DZY_ORDER: return "a fact or record not above the one before it";
     case DZY_ROOM: return "a lent output too short";
     case DZY_NO_FACT: return "a fact number not below the count";
+    case DZY_KIND: return "a rule kind over 4";
+    case DZY_OBJECT: return "a concept record whose object is not 0";
     default: return "no number of a refusal";
     }
 }
 
-/* What is wrong, and where; number 0 if nothing is. */
+/* What is wrong, and where; all 0 if nothing is. */
 typedef struct dzy_refusal {
-    uint32_t number; /* 0, or 1 to 10 */
+    uint32_t number; /* 0, or 1 to 12 */
     uint32_t side;   /* DZY_RULES, DZY_BUNDLE, or DZY_CALL: the call's own arguments */
     uint64_t place;  /* the byte, for sides 0 and 1; for side 2 the number of the record at fault, else 0 */
+    uint32_t item;   /* the number of the rule or fact there, from 0, or DZY_NO_ITEM */
 } dzy_refusal;
 
 /* How many facts there are, and how many of each mark. The three add up to the facts. */
@@ -181,8 +189,8 @@ dzy_length dzy_records(const uint8_t *rules, size_t rules_length, const uint8_t 
 
 /* Writes a row of records as a bundle, from the output's first byte on; gives its length in bytes.
  * Refuses 4 if there are more than 4,096. Then, at the first record at fault, in this order: 5 if its predicate is not
- * declared, 5 if it is of a concept and its object is not 0, 3 if its subject, then its object, is over 65,535, 8 if it is
- * not above the one before it. Then 9 if the output is shorter than the bundle. */
+ * declared, 12 if it is of a concept and its object is not 0, 3 if its subject, then its object, is over 65,535, 8 if it
+ * is not above the one before it. Then 9 if the output is shorter than the bundle. */
 dzy_length dzy_write_records(const uint8_t *rules, size_t rules_length, const dzy_record *row, size_t row_length,
                              uint8_t *out, size_t out_length);
 

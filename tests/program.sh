@@ -74,6 +74,10 @@ bytes '02 00 07 00 07' >"$work/site/bundle.bin"
 prints "a refusal in the bundle" <<<"refused 8 in bundle at 3"
 bytes '00 01 02 04 00 02 01 01' >"$work/site/rules.bin"
 prints "a refusal in the rules" <<<"refused 6 in rules at 3"
+bytes '00 00 01 05' >"$work/site/rules.bin"
+prints "a rule kind that there is not" <<<"refused 11 in rules at 3"
+bytes '00 00 01 04 00' >"$work/site/rules.bin"
+prints "a role that is not declared" <<<"refused 5 in rules at 4"
 
 site
 mkdir "$work/site/rules.bin"

@@ -1,6 +1,6 @@
 #!/usr/bin/env python3
 """Holds what the sources quote to the customer's documents, where their folder stands beside the project: every text in
-quotation marks in a comment of specs/ or src/ is words of the order or of document 01. `..` and `(..)` stand for words left
+quotation marks in a comment of specs/ or src/ is words of the order, of document 01 or of a request that has landed. `..` and `(..)` stand for words left
 out; capitals, quotation marks, a mark at the end and the marks of markdown do not count.
 
     tests/quoted.py [ROOT]
@@ -10,7 +10,7 @@ import pathlib
 import re
 import sys
 
-from quotes import FILES, words_of
+from quotes import texts_of, words_of
 
 ROOT = pathlib.Path(sys.argv[1]) if len(sys.argv) > 1 else pathlib.Path(__file__).resolve().parent.parent
 FOLDER = pathlib.Path(os.environ.get("DOCUMENTS", pathlib.Path(__file__).resolve().parent.parent.parent / "shared"))
@@ -38,7 +38,8 @@ def main():
     if not FOLDER.is_dir():
         print("the sources' quotes were not held to the documents, which are not beside the project")
         return 0
-    said = plain("\n".join(re.sub(r"(?m)^> ?", "", (FOLDER / name).read_text(encoding="utf-8")) for name in FILES))
+    order, scope, landed = texts_of(FOLDER)
+    said = plain("\n".join(re.sub(r"(?m)^> ?", "", text) for text in (order, scope, *landed.values())))
     quotes, bad = 0, []
     for path in sorted([*ROOT.glob("crates/*/specs/*.antt"), *ROOT.glob("crates/*/src/**/*.rt")]):
         for line, comment in comments_of(path.read_text(encoding="utf-8"), "--" if path.suffix == ".antt" else "//"):

@@ -1,7 +1,7 @@
 """Holds the quotes of docs/TRACE.md to the customer's documents, where their folder stands beside the project.
 
-The page has a section for each of document 01's, with its heading, and before them "The three demands", of the order. The
-quotes of a section, one after the other, are all the words of the document's section, so that no sentence is left out,
+The page has a section for each of document 01's, with its heading, before them "The three demands", of the order, and after
+them "Request N" for each request of document 02 that has landed. The quotes of a section, one after the other, are all the words of the document's section, so that no sentence is left out,
 changed or invented, and no cutting into sentences is needed. A row of a table is quoted as it stands, with its bars, and so
 is a list's item, with or without its mark. White space and the marks of markdown (backticks, `**`, bars, a list's dash) do
 not count; no other section has quotes.
@@ -9,7 +9,10 @@ not count; no other section has quotes.
 import re
 
 DEMANDS = "The three demands"
-FILES = ("00-order.md", "01-scope.md")
+FILES = ("00-order.md", "01-scope.md", "02-change-requests.md")
+
+# The requests that have landed, in their order.
+LANDED = (2,)
 
 
 def words_of(text):
@@ -29,13 +32,26 @@ def demands_of(order):
     return words_of("\n".join(re.findall(r"(?m)^> \d+\. (.*)$", order)))
 
 
+def landed_of(requests):
+    """The text of each request that has landed, by its heading on the page."""
+    found = {int(number): text for number, text in re.findall(r"(?m)^(\d+)\) (.*)$", requests)}
+    return {f"Request {number}": found[number] for number in LANDED}
+
+
+def texts_of(folder):
+    """What binds: the order, document 01, and the requests that have landed."""
+    order, scope, requests = ((folder / name).read_text(encoding="utf-8") for name in FILES)
+    return order, scope, landed_of(requests)
+
+
 def due_sections(folder):
     """What each section of the page must quote, and the documents that are missing."""
     missing = [name for name in FILES if not (folder / name).is_file()]
     if missing:
         return {}, missing
-    order, scope = ((folder / name).read_text(encoding="utf-8") for name in FILES)
-    return {**sections_of(scope), DEMANDS: demands_of(order)}, []
+    order, scope, landed = texts_of(folder)
+    requests = {heading: words_of(text) for heading, text in landed.items()}
+    return {**sections_of(scope), DEMANDS: demands_of(order), **requests}, []
 
 
 def quotes_of(lines):

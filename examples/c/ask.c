@@ -46,8 +46,10 @@ static uint64_t number(const char *word)
 static void print_refusal(dzy_refusal refused)
 {
     static const char *const sides[] = {"rules", "bundle", "call"};
-    printf("refused %" PRIu32 " in %s at %" PRIu64 ": %s\n", refused.number, sides[refused.side], refused.place,
-           dzy_refusal_text(refused.number));
+    printf("refused %" PRIu32 " in %s at %" PRIu64, refused.number, sides[refused.side], refused.place);
+    if (refused.item != DZY_NO_ITEM)
+        printf(" (%s %" PRIu32 ")", refused.side == DZY_RULES ? "rule" : "fact", refused.item);
+    printf(": %s\n", dzy_refusal_text(refused.number));
 }
 
 int main(int argc, char **argv)

@@ -1,6 +1,6 @@
 //! The answers as C lays them out. The outside tests take this file too where they cannot link the archive.
 
-/// What is wrong, and where; number 0 if nothing is.
+/// What is wrong, and where; all 0 if nothing is.
 #[repr(C)]
 #[derive(Clone, Copy, Debug, Default, PartialEq, Eq)]
 pub struct Refusal {
@@ -10,6 +10,8 @@ pub struct Refusal {
     pub side: u32,
     /// The byte, or the number of the record.
     pub place: u64,
+    /// The number of the rule or fact there, or 65,535.
+    pub item: u32,
 }
 
 /// How many facts there are, and how many of each mark.

@@ -10,6 +10,9 @@
 pub use crate::answers::{Answer, Asked, Counts, Length, Record, Refusal, Start, Yield};
 use crate::Mark;
 
+/// The item of a refusal that has none.
+pub const NO_ITEM: u32 = 65535;
+
 /// A reader as C lays it out.
 #[repr(C)]
 struct Reader {

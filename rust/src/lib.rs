@@ -236,7 +236,7 @@ pub fn records(rules: &[u8], bundle: &[u8], row: &mut [Record]) -> Result<usize,
 /// Writes a row of records as a bundle, from the output's first byte on; gives its length.
 ///
 /// Refuses 4 if there are more than [`MOST_FACTS`]. Then, at the first record at fault, in this order: 5 if its predicate is not
-/// declared, 5 if it is of a concept and its object is not 0, 3 if its subject, then its object, is over [`MOST_THING`], 8 if it is not
+/// declared, 12 if it is of a concept and its object is not 0, 3 if its subject, then its object, is over [`MOST_THING`], 8 if it is not
 /// above the one before it. Then 9 if the output is shorter than the bundle. [`records`] has an example.
 pub fn write_records(rules: &[u8], row: &[Record], out: &mut [u8]) -> Result<usize, Refusal> {
     length(c::write_records(rules, row, out))

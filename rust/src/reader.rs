@@ -43,8 +43,8 @@ impl<'a> Reader<'a> {
 
     /// The fact whose numbers stand at the next byte, or none if it is done: at or past the end.
     ///
-    /// It moves behind the fact. Refused (1, 2 or 3, at the number at fault) it stays, and reads the same again. It judges no
-    /// predicate and no order; a predicate from 64 on has an object.
+    /// It moves behind the fact. Refused (1, 2 or 3, at the number at fault, without an item) it stays, and reads the same again. It
+    /// judges no predicate and no order; a predicate from 64 on has an object.
     ///
     /// ```
     /// use dzyunagor::Reader;

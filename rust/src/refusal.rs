@@ -1,4 +1,4 @@
-//! Refusals: what is wrong, on which side, at which place.
+//! Refusals: what is wrong, on which side, at which place, in which item.
 
 use crate::c;
 use core::fmt::{Display, Formatter, Result as Told};
@@ -6,8 +6,9 @@ use core::fmt::{Display, Formatter, Result as Told};
 /// What is wrong, and where: the answer in place of work that cannot be done. Nothing was written.
 ///
 /// ```
-/// let refusal = dzyunagor::check_rules(b"\x00\x00\x00\x00").unwrap_err();
-/// assert_eq!(refusal.to_string(), "refused 7 in rules at 3: bytes after the last item");
+/// let refusal = dzyunagor::check_rules(b"\x00\x00\x01\x05").unwrap_err();
+/// assert_eq!((refusal.place, refusal.item), (3, Some(0)));
+/// assert_eq!(refusal.to_string(), "refused 11 in rules at 3 (rule 0): a rule kind over 4");
 /// ```
 #[derive(Clone, Copy, Debug, PartialEq, Eq, Hash)]
 pub struct Refusal {
@@ -17,6 +18,9 @@ pub struct Refusal {
     pub side: Side,
     /// The byte, from 0, of the rules or the bundle; for [`Side::Call`] the number of the record at fault, else 0.
     pub place: u64,
+    /// The number, from 0, of the rule or fact there, also where the bytes end while it is due. None in a file's counts and after its
+    /// last item, for [`Side::Call`], and from a step of a [`Reader`](crate::Reader).
+    pub item: Option<usize>,
 }
 
 /// Each number once, with its name and its text.
@@ -48,12 +52,14 @@ refusal_numbers! {
     2 Long "a number of more than one byte, the last of them 0"
     3 Over "a third byte with its top bit set, or a value over 65,535"
     4 TooMany "a count over its limit"
-    5 Unknown "a rule kind over 4, a concept or role that is not declared, or a concept record whose object is not 0"
+    5 Unknown "a concept or role that is not declared"
     6 Broken "a functional role on the right of a kind 2 rule"
     7 After "bytes after the last item"
     8 Order "a fact or record not above the one before it"
     9 Room "a lent output too short"
     10 NoFact "a fact number not below the count"
+    11 Kind "a rule kind over 4"
+    12 Object "a concept record whose object is not 0"
 }
 
 /// Where a refusal's fault is. More sides may come with a new minor version.
@@ -89,10 +95,14 @@ impl Display for Side {
     }
 }
 
-/// The line of the program `cleaner`, then what the number means.
+/// The line of the program `cleaner`, the rule or fact if there is one, then what the number means.
 impl Display for Refusal {
     fn fmt(&self, out: &mut Formatter) -> Told {
-        write!(out, "refused {} in {} at {}: {}", self.number as u32, self.side, self.place, self.number)
+        write!(out, "refused {} in {} at {}", self.number as u32, self.side, self.place)?;
+        if let Some(item) = self.item {
+            write!(out, " ({} {item})", if self.side == Side::Rules { "rule" } else { "fact" })?;
+        }
+        write!(out, ": {}", self.number)
     }
 }
 
@@ -105,8 +115,9 @@ pub(crate) fn answered<T>(refused: c::Refusal, answer: T) -> Result<T, Refusal> 
     }
     let number = RefusalNumber::ALL.iter().find(|&&number| number as u32 == refused.number);
     let side = Side::ALL.iter().find(|&&side| side as u32 == refused.side);
+    let item = (refused.item != c::NO_ITEM).then_some(refused.item as usize);
     match (number, side) {
-        (Some(&number), Some(&side)) => Err(Refusal { number, side, place: refused.place }),
+        (Some(&number), Some(&side)) => Err(Refusal { number, side, place: refused.place, item }),
         _ => panic!("{refused:?}: the archive is of another version than this package"),
     }
 }

@@ -55,6 +55,7 @@ fn constants_agree() {
     assert_eq!(defined("DZY_MOST_BUNDLE"), MOST_BUNDLE as u64);
     assert_eq!(defined("DZY_MOST_THING"), MOST_THING);
     assert_eq!(defined("DZY_NO_PARTNER"), u64::from(NO_PARTNER));
+    assert_eq!(defined("DZY_NO_ITEM"), u64::from(c::NO_ITEM));
     for (name, mark) in [("KEPT", Mark::Kept), ("ALONE", Mark::Alone), ("DISPUTED", Mark::Disputed)] {
         assert_eq!(defined(&format!("DZY_{name}")), mark as u64);
     }

@@ -8,7 +8,7 @@
 
 #include "dzyunagor.h"
 
-enum { ROOM = 16, FILE_MOST = 64 };
+enum { ROOM = 16, FILE_MOST = 64, NO_ITEM = 65535 };
 
 static const char *const R = "02 01 05 01 00 01 00 01 40 00 41 00 04 00 03 00 01";
 static const char *const F = "06 00 07 01 07 01 09 40 09 07 40 09 AC 02 40 0C 0C";
@@ -29,10 +29,18 @@ static inline int told(const char *name) {
   return failures == 0 ? 0 : 1;
 }
 
+static const dzy_refusal not_refused = {0, 0, 0, 0};
+
+/* The refusal of the call's own arguments. */
+static inline dzy_refusal of_call(uint32_t number, uint64_t at) { return (dzy_refusal){number, 2, at, NO_ITEM}; }
+
+static inline int same_refusal(dzy_refusal a, dzy_refusal b) {
+  return a.number == b.number && a.side == b.side && a.place == b.place && a.item == b.item;
+}
+
 /* Whether an answer was refused so, and whether it was not refused. */
-#define REFUSED(answer, n, s, p) \
-  ((answer).refused.number == (n) && (answer).refused.side == (s) && (answer).refused.place == (p))
-#define ACCEPTED(answer) REFUSED(answer, 0, 0, 0)
+#define REFUSED(answer, due) same_refusal((answer).refused, due)
+#define ACCEPTED(answer) REFUSED(answer, not_refused)
 
 static inline lent lend(size_t length, edge where) {
   lent l = map_room(length);

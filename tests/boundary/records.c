@@ -33,6 +33,11 @@ typedef struct {
   size_t next;
 } own_step;
 
+/* The refusal of such a step: on the bundle's side, and of no item. */
+static dzy_refusal of_step(const own_step *due) {
+  return due->number == 0 ? not_refused : (dzy_refusal){due->number, 1, due->place, NO_ITEM};
+}
+
 static own_step read_step(const uint8_t *bytes, size_t length, size_t at) {
   uint32_t values[3] = {0, 0, 0};
   size_t here = at;
@@ -74,20 +79,20 @@ static int is_above(dzy_record a, dzy_record b) {
 static uint32_t fault_of(const dzy_record *row, size_t k, uint32_t concepts, uint32_t roles) {
   dzy_record r = row[k];
   if (r.predicate < 64 ? r.predicate >= concepts : r.predicate - 64 >= roles) return 5;
-  if (r.predicate < 64 && r.object != 0) return 5;
+  if (r.predicate < 64 && r.object != 0) return 12;
   if (r.subject > 65535 || r.object > 65535) return 3;
   return k > 0 && !is_above(r, row[k - 1]) ? 8 : 0;
 }
 
 /* Writes a row under some rules into so much room: refused so, and nothing written, or its bundle. */
-static void check_write(const lent *rules, const dzy_record *row, size_t records, size_t room, uint32_t number,
-                        uint32_t side, uint64_t at, const char *name, edge where) {
+static void check_write(const lent *rules, const dzy_record *row, size_t records, size_t room, dzy_refusal refused,
+                        const char *name, edge where) {
   static uint8_t due[MOST_FACTS * FACT_MOST];
   lent given = lend_file(row, records * RECORD, where), out = lend(room, where);
   dzy_length l = dzy_write_records(rules->at, rules->length, row_at(&given), records, out.at, room);
-  size_t written = number == 0 ? put_row(due, row, records) : 0;
-  hold("write_records", name, REFUSED(l, number, side, at) && l.length == written);
-  hold("write_records, bytes", name, number != 0 || (written <= room && memcmp(out.at, due, written) == 0));
+  size_t written = refused.number == 0 ? put_row(due, row, records) : 0;
+  hold("write_records", name, REFUSED(l, refused) && l.length == written);
+  hold("write_records, bytes", name, refused.number != 0 || (written <= room && memcmp(out.at, due, written) == 0));
   hold("write_records, past the length", name, untouched_past(&out, written));
   give_back(&given);
   give_back(&out);
@@ -97,10 +102,8 @@ static void check_write(const lent *rules, const dzy_record *row, size_t records
 static void check_write_rooms(const lent *rules, const dzy_record *row, size_t records, size_t length, const char *name,
                               edge where) {
   size_t rooms[5] = {0, length - 1, length, length + 1, length + ROOM};
-  for (size_t i = 0; i < 5; i++) {
-    int fits = rooms[i] >= length;
-    check_write(rules, row, records, rooms[i], fits ? 0 : 9, fits ? 0 : 2, 0, name, where);
-  }
+  for (size_t i = 0; i < 5; i++)
+    check_write(rules, row, records, rooms[i], rooms[i] < length ? of_call(9, 0) : not_refused, name, where);
 }
 
 /* Hands the facts out into so many slots: refused by 9, and nothing written, or the row. */
@@ -108,7 +111,7 @@ static void check_out(const site *s, const dzy_record *due, size_t records, size
   lent row = lend(slots * RECORD, where);
   dzy_length l = dzy_records(SITE(s), row_at(&row), slots);
   size_t written = slots < records ? 0 : records;
-  hold("records", name, slots < records ? REFUSED(l, 9, 2, 0) : ACCEPTED(l));
+  hold("records", name, REFUSED(l, slots < records ? of_call(9, 0) : not_refused));
   hold("records, count", name, l.length == written);
   hold("records, row", name, same_rows(row_at(&row), due, written));
   hold("records, slots past the count", name, untouched_past(&row, written * RECORD));
@@ -124,7 +127,7 @@ static void check_step(const lent *bundle, size_t at, const char *name, edge whe
   memcpy(room.at, words, sizeof words);
   for (int turn = 0; turn < (due.found == 1 ? 1 : 3); turn++) {
     dzy_yield y = dzy_reader_next((dzy_reader *)(void *)room.at);
-    hold("reader, refusal", name, REFUSED(y, due.number, due.number == 0 ? 0 : 1, due.place));
+    hold("reader, refusal", name, REFUSED(y, of_step(&due)));
     hold("reader, fact", name, y.found == due.found && same_record(y.fact, due.fact));
     words[2] = due.next;
     hold("reader, bundle and place", name, memcmp(room.at, words, sizeof words) == 0);
@@ -209,9 +212,9 @@ static void too_many_records(edge where) {
   for (int with = 0; with < 3; with++) {
     fill_long_row();
     if (with > 0) memset(long_row, with == 1 ? 0 : 0xFF, sizeof long_row);
-    check_write(&rules, long_row, MOST_FACTS + 1, 0, 4, 2, 0, "too many records", where);
-    check_write(&rules, long_row, MOST_FACTS + 1, MOST_BUNDLE + ROOM, 4, 2, 0, "too many records", where);
-    check_write(&bad, long_row, MOST_FACTS + 1, 0, 4, 0, 0, "too many records, rules refused", where);
+    check_write(&rules, long_row, MOST_FACTS + 1, 0, of_call(4, 0), "too many records", where);
+    check_write(&rules, long_row, MOST_FACTS + 1, MOST_BUNDLE + ROOM, of_call(4, 0), "too many records", where);
+    check_write(&bad, long_row, MOST_FACTS + 1, 0, (dzy_refusal){4, 0, 0, NO_ITEM}, "too many records, rules refused", where);
   }
   give_back(&rules);
   give_back(&bad);
@@ -226,13 +229,15 @@ static void far_faults(edge where) {
     for (size_t room = 0; room <= MOST_BUNDLE; room += MOST_BUNDLE) {
       fill_long_row();
       long_row[places[i]].predicate = 96;
-      check_write(&rules, long_row, MOST_FACTS, room, 5, 2, places[i], "far, predicate", where);
+      check_write(&rules, long_row, MOST_FACTS, room, of_call(5, places[i]), "far, predicate", where);
+      long_row[places[i]].predicate = 0;
+      check_write(&rules, long_row, MOST_FACTS, room, of_call(12, places[i]), "far, object of a concept", where);
       long_row[places[i]].predicate = 95;
       long_row[places[i]].object = 65536;
-      check_write(&rules, long_row, MOST_FACTS, room, 3, 2, places[i], "far, object", where);
+      check_write(&rules, long_row, MOST_FACTS, room, of_call(3, places[i]), "far, object", where);
       if (places[i] == 0) continue;
       long_row[places[i]] = long_row[places[i] - 1];
-      check_write(&rules, long_row, MOST_FACTS, room, 8, 2, places[i], "far, order", where);
+      check_write(&rules, long_row, MOST_FACTS, room, of_call(8, places[i]), "far, order", where);
     }
   give_back(&rules);
 }
@@ -256,10 +261,10 @@ static const faulty faults[] = {
     {{65537, 9, 0}, 5},                              /* 1 in 16 bits */
     {{0x80000000, 7, 0}, 5},                         /* below 0 if it were signed */
     {{UINT32_MAX, 7, 0}, 5},                         /* the largest in 32 bits */
-    {{0, 7, 1}, 5},                                  /* the object of a concept */
-    {{1, 9, 65535}, 5},                              /* the same */
-    {{1, 9, 65536}, 5},                              /* over: 5 and not 3; 0 in 16 bits */
-    {{1, 9, UINT32_MAX}, 5},                         /* the same */
+    {{0, 7, 1}, 12},                                 /* the object of a concept */
+    {{1, 9, 65535}, 12},                             /* the same */
+    {{1, 9, 65536}, 12},                             /* over: 12 and not 3; 0 in 16 bits */
+    {{1, 9, UINT32_MAX}, 12},                        /* the same */
     {{0, 65536, 0}, 3},                              /* a subject over */
     {{1, UINT32_MAX, 0}, 3},                         /* the same */
     {{64, 65536, 7}, 3},                             /* a role's subject over */
@@ -272,7 +277,7 @@ static const faulty faults[] = {
     {{2, 65536, 0}, 5},                              /* predicate before subject */
     {{65, 7, 65536}, 5},                             /* predicate before object */
     {{2, 7, 1}, 5},                                  /* predicate before a concept's object */
-    {{0, 65536, 1}, 5},                              /* a concept's object before its subject */
+    {{0, 65536, 1}, 12},                             /* a concept's object before its subject */
     {{UINT32_MAX, UINT32_MAX, UINT32_MAX}, 5},       /* predicate before all */
 };
 
@@ -285,13 +290,13 @@ static void faulty_records(edge where) {
       for (size_t room = 0; room <= ROOM; room += ROOM) {
         dzy_record row[3] = {{0, 7, 0}, {1, 9, 0}, {64, 9, 7}};
         row[k] = faults[i].record;
-        check_write(&rules, row, 3, room, faults[i].number, 2, k, "a fault in one record", where);
-        check_write(&rules, &row[k], 1, room, faults[i].number, 2, 0, "a record by itself", where);
+        check_write(&rules, row, 3, room, of_call(faults[i].number, k), "a fault in one record", where);
+        check_write(&rules, &row[k], 1, room, of_call(faults[i].number, 0), "a record by itself", where);
       }
   give_back(&rules);
 }
 
-/* Rows out of order: which record is not above the one before it; 3 and 5 of that record come first. */
+/* Rows out of order: which record is not above the one before it; 3, 5 and 12 of that record come first. */
 typedef struct {
   dzy_record row[3];
   uint32_t number;
@@ -310,7 +315,7 @@ static const disordered disorders[] = {
     {{{64, 0, 0}, {1, 7, 0}, {0, 7, 0}}, 8, 1},           /* the first of two */
     {{{1, 9, 0}, {0, 65536, 0}, {0, 7, 0}}, 3, 1},        /* a subject over, before the order */
     {{{64, 9, 7}, {64, 8, 65536}, {64, 9, 8}}, 3, 1},     /* an object over, before the order */
-    {{{1, 9, 0}, {0, 9, 1}, {1, 9, 0}}, 5, 1},            /* a concept's object, before the order */
+    {{{1, 9, 0}, {0, 9, 1}, {1, 9, 0}}, 12, 1},           /* a concept's object, before the order */
     {{{64, 9, 7}, {2, 9, 0}, {64, 9, 7}}, 5, 1},          /* a predicate, before the order */
     {{{0, 7, 0}, {0, 7, 0}, {9, 7, 0}}, 8, 1},            /* the order of the second, before the predicate of the third */
     {{{0, 7, 0}, {64, 9, 7}, {UINT32_MAX, 0, 0}}, 5, 2},  /* above, and not declared */
@@ -321,7 +326,7 @@ static void disordered_rows(edge where) {
   lent rules = lend_file(file_r.bytes, file_r.length, where);
   for (size_t i = 0; i < sizeof disorders / sizeof *disorders; i++)
     for (size_t room = 0; room <= ROOM; room += ROOM)
-      check_write(&rules, disorders[i].row, 3, room, disorders[i].number, 2, disorders[i].place, "order", where);
+      check_write(&rules, disorders[i].row, 3, room, of_call(disorders[i].number, disorders[i].place), "order", where);
   give_back(&rules);
 }
 
@@ -339,7 +344,7 @@ static void swept_records(edge where) {
       uint32_t number = 0;
       size_t k = 0;
       while (k < 3 && (number = fault_of(row, k, hex.bytes[0], hex.bytes[1])) == 0) k++;
-      check_write(&rules, row, 3, 3 * FACT_MOST, number, number == 0 ? 0 : 2, number == 0 ? 0 : k, "swept", where);
+      check_write(&rules, row, 3, 3 * FACT_MOST, number == 0 ? not_refused : of_call(number, k), "swept", where);
     }
     give_back(&rules);
   }
@@ -401,7 +406,7 @@ static void written_states(edge where) {
     lent bundle = lend_file(f.bytes, f.length, where);
     dzy_reader reader = {bundle.at, bundle.length, stands[i].at};
     dzy_yield y = dzy_reader_next(&reader);
-    hold("reader by hand", stands[i].hex, REFUSED(y, due->number, due->number == 0 ? 0 : 1, due->place));
+    hold("reader by hand", stands[i].hex, REFUSED(y, of_step(due)));
     hold("reader by hand, fact", stands[i].hex, y.found == due->found && same_record(y.fact, due->fact));
     hold("reader by hand, place", stands[i].hex, reader.at == due->next);
     give_back(&bundle);

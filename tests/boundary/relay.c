@@ -4,14 +4,14 @@
  * many bytes and 16-bit numbers are lent as outputs; then the rules, the bundle and the outputs as they are lent.
  * A row of records is its bytes: handed out, it is the bytes that are lent; to be written, it takes the bundle's place.
  * A reader's next byte is a 64-bit number in the bytes that are lent.
- * The reply is eight 64-bit numbers: the refusal's number, side and place, four values, and whether all memory
+ * The reply is nine 64-bit numbers: the refusal's number, side, place and item, four values, and whether all memory
  * but the lent outputs is as it was; then the outputs. Numbers are little-endian, as x86-64 has them. */
 #include "lent.h"
 
 #include "dzyunagor.h"
 
 /* The longest file or output that is relayed. */
-enum { MOST = 1 << 18, NUMBERS = 8 };
+enum { MOST = 1 << 18 };
 
 enum {
   OP_MARK,
@@ -33,10 +33,10 @@ typedef struct {
 } request;
 
 typedef struct {
-  uint64_t number, side, place, values[4], intact;
+  uint64_t number, side, place, item, values[4], intact;
 } reply;
 
-_Static_assert(sizeof(request) == NUMBERS * 8 && sizeof(reply) == NUMBERS * 8, "eight numbers");
+_Static_assert(sizeof(request) == 8 * 8 && sizeof(reply) == 9 * 8, "eight numbers, and nine");
 
 /* The memory that is lent, and copies of the files to see that they stay as they are. */
 static lent rules, bundle, bytes, words, reader;
@@ -49,11 +49,16 @@ static void read_into(lent *l, uint64_t length, edge where) {
 }
 
 #define FILES rules.at, rules.length, bundle.at, bundle.length
-#define REFUSAL(r, answer) \
-  ((r)->number = (answer).refused.number, (r)->side = (answer).refused.side, (r)->place = (answer).refused.place)
+
+static void put_refusal(reply *r, dzy_refusal refused) {
+  r->number = refused.number;
+  r->side = refused.side;
+  r->place = refused.place;
+  r->item = refused.item;
+}
 
 static void put_counts(reply *r, dzy_counts c) {
-  REFUSAL(r, c);
+  put_refusal(r, c.refused);
   r->values[0] = c.facts;
   r->values[1] = c.kept;
   r->values[2] = c.alone;
@@ -61,29 +66,29 @@ static void put_counts(reply *r, dzy_counts c) {
 }
 
 static void put_asked(reply *r, dzy_asked a) {
-  REFUSAL(r, a);
+  put_refusal(r, a.refused);
   r->values[0] = a.mark;
   r->values[1] = a.partner;
 }
 
 static void put_answer(reply *r, dzy_answer a) {
-  REFUSAL(r, a);
+  put_refusal(r, a.refused);
   r->values[0] = a.yes;
   r->values[1] = a.fact;
 }
 
 static void put_length(reply *r, dzy_length l) {
-  REFUSAL(r, l);
+  put_refusal(r, l.refused);
   r->values[0] = l.length;
 }
 
 static void put_start(reply *r, dzy_start s) {
-  REFUSAL(r, s);
+  put_refusal(r, s.refused);
   r->values[0] = s.at;
 }
 
 static void put_yield(reply *r, dzy_yield y) {
-  REFUSAL(r, y);
+  put_refusal(r, y.refused);
   r->values[0] = y.found;
   r->values[1] = y.fact.predicate;
   r->values[2] = y.fact.subject;

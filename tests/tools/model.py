@@ -1,7 +1,7 @@
 """The definitions of document 01, read literally and slowly: what the documents' examples are held to.
 
 It takes the readers of tools/site and adds what follows from the rules, marks, partners, answers and the room of lent
-memory. Every operation gives its result or raises Refusal(number, side, place).
+memory. Every operation gives its result or raises Refusal(number, side, place, item).
 """
 import os
 import sys
@@ -14,12 +14,13 @@ from dzysite import files, kinds
 CALL = 2
 KEPT, ALONE, DISPUTED = 0, 1, 2
 NO_PARTNER = 65535
+NO_ITEM = 65535
 
 
 class Refusal(Exception):
-    def __init__(self, number, side, place):
-        super().__init__(f"{number} {side} {place}")
-        self.three = (number, side, place)
+    def __init__(self, number, side, place, item=NO_ITEM):
+        super().__init__(f"{number} {side} {place} {item}")
+        self.four = (number, side, place, item)
 
 
 def read(rules, bundle=None):
@@ -28,7 +29,7 @@ def read(rules, bundle=None):
         concepts, roles, rule_list = files.read_rules(rules)
         facts = None if bundle is None else files.read_bundle(bundle, concepts, roles)
     except kinds.Refused as refused:
-        raise Refusal(refused.number, refused.side, refused.place) from None
+        raise Refusal(*refused.printed(), refused.item) from None
     return concepts, roles, rule_list, facts
 
 
@@ -194,7 +195,7 @@ def write_records(rules, records, room):
         if not (predicate < concepts if predicate < 64 else predicate - 64 < roles):
             raise Refusal(5, CALL, k)
         if predicate < 64 and object_ != 0:
-            raise Refusal(5, CALL, k)
+            raise Refusal(12, CALL, k)
         if subject > 65535 or object_ > 65535:
             raise Refusal(3, CALL, k)
         if last is not None and (predicate, subject, object_) <= last:
@@ -213,6 +214,11 @@ def give_records(rules, bundle, room):
     return facts
 
 
+def reader_start(rules, bundle):
+    """The place after the count, where a reader starts."""
+    return len(files.number_bytes(len(read(rules, bundle)[3])))
+
+
 def reader_next(data, at):
     """What a reader yields at a place, a record or None once it is done, and its place afterwards; a refusal leaves it where it is."""
     if at >= len(data):
@@ -222,7 +228,7 @@ def reader_next(data, at):
         subject, after = files.number_at(data, after, 1)
         object_, after = (0, after) if predicate < 64 else files.number_at(data, after, 1)
     except kinds.Refused as refused:
-        raise Refusal(refused.number, refused.side, refused.place) from None
+        raise Refusal(*refused.printed()) from None
     return (predicate, subject, object_), after
 
 
@@ -231,7 +237,7 @@ def listing(rules, bundle):
     try:
         *head, facts = read(rules, bundle)
     except Refusal as refusal:
-        number, side, place = refusal.three
+        number, side, place, _ = refusal.four
         return f"refused {number} in {('rules', 'bundle')[side]} at {place}\n"
     marks, partners = judge(*head, facts)
     lines = ["facts {} kept {} alone {} disputed {}".format(*counts(facts, marks))]

@@ -99,10 +99,15 @@ class Folders(unittest.TestCase):
 
     def test_refused_files(self):
         for rules, bundle, file, message in (
-            (R, "02 00 07 00 07", "bundle.bin", "refused 8 in bundle at 3: a fact not above the one before it"),
-            (R, "", "bundle.bin", "refused 1 in bundle at 0: the bytes end before a number that is due is complete"),
-            ("00 01 02 04 00 02 01 01", F, "rules.bin", "refused 6 in rules at 3: a functional role stands on the right of a kind 2 rule"),
-            (R + bytes(70000), F, "rules.bin", "refused 7 in rules at 17: bytes after the last item"),
+            (R, "02 00 07 00 07", "bundle.bin", "refused 8 in bundle at 3, in fact 1: a fact not above the one before it"),
+            (R, "", "bundle.bin", "refused 1 in bundle at 0, in the header: the bytes end before a number that is due is complete"),
+            (R, "80 20", "bundle.bin", "refused 1 in bundle at 2, in fact 0: the bytes end before a number that is due is complete"),
+            (R, "02 00 07 02 07", "bundle.bin", "refused 5 in bundle at 3, in fact 1: a concept or role that is not declared, found the code 2"),
+            ("01 00 02 00 00 00 05", F, "rules.bin", "refused 11 in rules at 6, in rule 1: a rule kind over 4, found 5"),
+            ("01 00 02 00 00 00 80 80 04", F, "rules.bin", "refused 3 in rules at 6, in rule 1: a number with its top bit set on the third byte, or over 65,535"),
+            ("01 00 01 00 00 01", F, "rules.bin", "refused 5 in rules at 5, in rule 0: a concept or role that is not declared, found the code 1"),
+            ("00 01 02 04 00 02 01 01", F, "rules.bin", "refused 6 in rules at 3, in rule 0: a functional role stands on the right of a kind 2 rule, found rule 1"),
+            (R + bytes(70000), F, "rules.bin", "refused 7 in rules at 17, after the last rule: bytes after the last item"),
         ):
             rules, bundle = (bytes.fromhex(data) if isinstance(data, str) else data for data in (rules, bundle))
             folder = self.folder(rules, bundle)

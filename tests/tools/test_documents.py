@@ -45,7 +45,19 @@ CALLS = {
     "joins": lambda rules, bundle, args: model.joins(rules, bundle, *args),
     "write kept": lambda rules, bundle, args: model.write_kept(rules, bundle, *args),
     "give records": lambda rules, bundle, args: model.give_records(rules, bundle, *args),
+    "write records": lambda rules, bundle, args: model.write_records(rules, list(zip(*[iter(args[:-1])] * 3)), args[-1]),
+    "start reader": lambda rules, bundle, args: model.reader_start(rules, bundle),
+    "step": lambda rules, bundle, args: model.reader_next(bundle, *args),
 }
+
+
+def refusal_of(call, rules, bundle, args):
+    """The four numbers of what a row's call gives, all 0 if it is not refused."""
+    try:
+        CALLS[call](hex_of(rules), hex_of(bundle), numbers(args))
+    except model.Refusal as refusal:
+        return refusal.four
+    return (0, 0, 0, 0)
 
 
 def numbers(cell):
@@ -53,39 +65,59 @@ def numbers(cell):
 
 
 class Documents(unittest.TestCase):
+    def test_worked_refusals(self):
+        """Each number and each case of the item, and the bytes that the sentences quote at their places."""
+        seen, cases = set(), {}
+        for case, number, call, rules, bundle, args, side, place, item, words in rows(document("REFUSALS.md"), "## Worked examples"):
+            with self.subTest(call=call, rules=rules, bundle=bundle, args=args):
+                four = tuple(map(int, (number, side, place, item)))
+                self.assertEqual(refusal_of(call, rules, bundle, args), four)
+                data = hex_of(rules if call == "read rules" else bundle)
+                for at, quoted in re.findall(r"At ([0-9]+) ((?:[0-9A-F]{2} ?)+):", words):
+                    self.assertEqual(data[int(at) :].hex(" ").upper()[: len(quoted)], quoted)
+                seen.add(four[0])
+                cases.setdefault(case, set()).add(four[3])
+        self.assertEqual(seen, set(range(13)))
+        none = {model.NO_ITEM}
+        self.assertEqual(cases, {
+            "header": none, "right after the header": {0}, "bytes end before a fact": {1}, "bytes end in a fact": {1},
+            "first rule": {0}, "middle rule": {1}, "first fact": {0}, "middle fact": {1}, "last fact": {1, 2}, "broken rule": {1},
+            "after the last rule": none, "after the last fact": none, "arguments": none, "record": none,
+            "reader started": {1}, "reader's step": none, "not refused": {0},
+        })
+
     def test_examples_of_refusals(self):
         seen = set()
         text = document("REFUSALS.md")
-        for number, call, rules, bundle, args, side, place in rows(text, "## Examples") + rows(text, "Where two faults meet"):
+        for number, call, rules, bundle, args, side, place, item in rows(text, "## Examples") + rows(text, "Where two faults meet"):
             with self.subTest(call=call, rules=rules, bundle=bundle, args=args):
-                with self.assertRaises(model.Refusal) as caught:
-                    CALLS[call](hex_of(rules), hex_of(bundle), numbers(args))
-                self.assertEqual(caught.exception.three, (int(number), int(side), int(place)))
+                self.assertEqual(refusal_of(call, rules, bundle, args), tuple(map(int, (number, side, place, item))))
                 seen.add(int(number))
-        self.assertEqual(seen, set(range(1, 11)))
+        self.assertEqual(seen, set(range(1, 12)))
 
     def test_examples_of_records(self):
         seen = set()
-        for number, rules, records, room, side, place in rows(document("REFUSALS.md"), "## Examples of records"):
+        for number, rules, records, room, side, place, item in rows(document("REFUSALS.md"), "## Examples of records"):
             with self.subTest(records=records):
-                row = [tuple(numbers(one)) for one in re.findall(r"\(.*?\)", records)]
-                with self.assertRaises(model.Refusal) as caught:
-                    model.write_records(hex_of(rules), row, int(room))
-                self.assertEqual(caught.exception.three, (int(number), int(side), int(place)))
-                seen.add(int(number))
-        self.assertEqual(seen, {3, 5, 8, 9})
+                four = tuple(map(int, (number, side, place, item)))
+                self.assertEqual(refusal_of("write records", rules, "none", f"{records}, {room}"), four)
+                seen.add(four[0])
+        self.assertEqual(seen, {3, 5, 8, 9, 12})
+        with self.assertRaises(model.Refusal) as caught:
+            model.write_records(R, [(2, 70000, 1)] * 4097, 0)
+        self.assertEqual(caught.exception.four, (4, 2, 0, model.NO_ITEM))
 
     def test_examples_of_the_reader(self):
-        for bytes_, at, gives, then in rows(document("REFUSALS.md"), "## Examples of the reader"):
+        for bytes_, at, gives, item, then in rows(document("REFUSALS.md"), "## Examples of the reader"):
             with self.subTest(bytes=bytes_, at=at):
                 if gives.startswith("refusal"):
                     number, place = numbers(gives)
                     with self.assertRaises(model.Refusal) as caught:
                         model.reader_next(hex_of(bytes_), int(at))
-                    self.assertEqual((caught.exception.three, then), ((number, 1, place), at))
+                    self.assertEqual((caught.exception.four, then), ((number, 1, place, int(item)), at))
                 else:
                     fact = None if gives == "done" else tuple(numbers(gives))
-                    self.assertEqual(model.reader_next(hex_of(bytes_), int(at)), (fact, int(then)))
+                    self.assertEqual((model.reader_next(hex_of(bytes_), int(at)), item), ((fact, int(then)), "0"))
 
     def test_records_of_the_worked_site(self):
         row = model.give_records(R, F, 6)
@@ -153,6 +185,17 @@ class Documents(unittest.TestCase):
             except Faults as faults:
                 told = faults.messages
             self.assertEqual(told, [f"site.txt:{line}: {message}"])
+
+    def test_refused_files_of_the_text_document(self):
+        """Each refused file that TEXT.md shows is a file of the worked site with one number changed, cut off or added."""
+        files = [(R[:12] + b"\5" + R[13:], F), (R[:11] + b"\2" + R[12:], F), (R[:1] + b"\x21" + R[2:], F), (R, F[:7] + b"\x41" + F[8:]), (R, F[:16]), (R, F + b"\0")]
+        shown = re.findall(r"^site/(.*\.bin: refused .*)$", document("TEXT.md"), re.M)
+        self.assertEqual(len(shown), len(files))
+        for message, (rules, bundle) in zip(shown, files):
+            folder = new_folder(self)
+            put(folder, "rules.bin", rules)
+            put(folder, "bundle.bin", bundle)
+            self.assertEqual(run("clean", folder), (2, "", f"{folder}/{message}\n"))
 
     def test_building_by_hand(self):
         folder = new_folder(self)

@@ -55,8 +55,8 @@ class Folder(unittest.TestCase):
     def test_refused_bytes(self):
         status, text, errors = run("show", self.folder(R, bytes.fromhex("02 00 07 00 07")))
         self.assertEqual((status, text), (1, ""))
-        self.assertIn("bundle.bin: refused 8 in bundle at 3: a fact not above the one before it", errors)
-        self.assertIn("rules.bin: refused 6 in rules at 3", run("show", self.folder(bytes.fromhex("00 01 02 04 00 02 01 01"), b""))[2])
+        self.assertIn("bundle.bin: refused 8 in bundle at 3, in fact 1: a fact not above the one before it", errors)
+        self.assertIn("rules.bin: refused 6 in rules at 3, in rule 0: ", run("show", self.folder(bytes.fromhex("00 01 02 04 00 02 01 01"), b""))[2])
 
     def test_refused_names(self):
         for names, message in (

@@ -5,7 +5,7 @@ import unittest
 
 sys.dont_write_bytecode = True
 sys.path.insert(0, os.path.dirname(os.path.abspath(__file__)))
-from common import LISTING, new_folder, run
+from common import LISTING, new_folder, put, run
 
 
 class Listing(unittest.TestCase):
@@ -46,9 +46,16 @@ class Listing(unittest.TestCase):
             self.assertIn(message, errors)
 
     def test_listing_of_a_refusal(self):
+        """The refusal of the folder's files is told with its item; another output is told too."""
         folder = self.build("worked-site")
-        status, out, errors = run("listing", folder, stdin=b"refused 8 in bundle at 3\n")
-        self.assertEqual((status, out, errors), (1, "", "refused 8 in bundle at 3: a fact not above the one before it\n"))
+        line = "refused 8 in bundle at 3"
+        status, out, errors = run("listing", folder, stdin=f"{line}\n".encode())
+        self.assertEqual((status, out, errors), (1, "", f"output: line 1: expected 'facts N kept N alone N disputed N', found '{line}'\n"))
+        told = f"{put(folder, 'bundle.bin', bytes.fromhex('02 00 07 00 07'))}: {line}, in fact 1: a fact not above the one before it\n"
+        self.assertEqual(run("listing", folder, stdin=f"{line}\n".encode()), (1, "", told))
+        for other in (LISTING, "refused 8 in bundle at 2\n", "refused 9 in bundle at 3\n", ""):
+            first = other.split("\n")[0]
+            self.assertEqual(run("listing", folder, stdin=other.encode()), (1, "", f"{told}output: expected '{line}', found '{first}'\n"))
 
 
 if __name__ == "__main__":

@@ -3,13 +3,16 @@ import os
 import sys
 
 from .explain import explain, quotes_of_files, quotes_of_text
+from .files import item_at
 from .folder import contents, read_file, read_folder, refused_file, site_of
-from .kinds import FILES, Fault, Faults, Refused, counted
+from .kinds import FILES, NO_ITEM, RULES, Fault, Faults, Refused, counted, refusal_line
 from .lines import text_of
 from .listing import KEPT, count_marks, named_listing, read_listing, read_refusal
 from .program import find_program, run_program
 from .reasons import Judge
 from .text import Reading
+
+ONE_IS_WRONG = "one of the two is wrong, please report it"
 
 # The exit status: the worst of all sites.
 NOTHING_DROPPED, DROPPED, FAILED = 0, 1, 2
@@ -37,21 +40,32 @@ class Cleaned:
     def read_folder(self, program):
         rules, bundle, names = read_folder(self.path)
         output = run_program(program, rules, bundle)
-        self.accept(output)
         try:
             self.site = site_of(rules, bundle, names, os.path.join(self.path, FILES[2]))
         except Refused as refused:
-            raise Faults([f"{self.path}: the program accepts the files, and the tool says '{refused}': one of the two is wrong, please report it"]) from None
+            raise Faults([self.tool_refuses(read_refusal(output), refused)]) from None
         self.quotes = quotes_of_files(self.site)
         self.judge(output)
 
-    def accept(self, output):
-        refused = read_refusal(output)
-        if refused:
-            raise Faults([refused_file(self.path, *refused)])
+    def tool_refuses(self, said, refused):
+        """The message where the tool refuses a file: the program's line, which has no item, must be that refusal's."""
+        if said == refused.printed():
+            return refused_file(self.path, refused)
+        program = f"says '{refusal_line(*said)}'" if said else "accepts the files"
+        return f"{self.path}: the program {program}, and the tool says '{refused.told()}': {ONE_IS_WRONG}"
+
+    def program_refuses(self, said):
+        """The message where only the program refuses: the rule or fact at its place is quoted, with its line in a text."""
+        _, side, place = said
+        refused = Refused(*said, item_at(self.site, side, place))
+        items = self.quotes.rules if side == RULES else self.quotes.facts
+        quote = "" if refused.item == NO_ITEM else ": ".join(items[refused.item]) + ": "
+        return f"{self.path}: {quote}the program says '{refused.told()}', and the tool accepts the files: {ONE_IS_WRONG}"
 
     def judge(self, output):
-        self.accept(output)
+        said = read_refusal(output)
+        if said:
+            raise Faults([self.program_refuses(said)])
         try:
             self.judged = read_listing(self.site, output)
         except Fault as fault:

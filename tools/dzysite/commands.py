@@ -4,9 +4,9 @@ import os
 import sys
 
 from .clean import clean
-from .folder import contents, load_folder, read_file, write_folder
-from .kinds import MEANINGS, Fault, Faults, Refused
-from .lines import text_of
+from .folder import contents, load_folder, read_file, refused_file, site_of_folder, write_folder
+from .kinds import Fault, Faults, Refused
+from .lines import shown, text_of
 from .listing import named_listing, read_listing, read_refusal
 from .text import MOST_MESSAGES, read_text
 from .words import summary, write_text
@@ -40,10 +40,14 @@ def listing(args):
     if sys.stdin.isatty():
         print("note: the cleaner's output is read from standard input; 'site clean' runs the cleaner itself", file=sys.stderr)
     output = text_of(sys.stdin.buffer.read(), "output")
-    refused = read_refusal(output)
-    if refused:
-        raise Faults([f"{Refused(*refused)}: {MEANINGS[refused[0]]}"])
-    site = load_folder(args.folder)
+    try:
+        site = site_of_folder(args.folder)
+    except Refused as refused:
+        messages = [refused_file(args.folder, refused)]
+        if read_refusal(output) != refused.printed():
+            first, _, _ = output.partition("\n")
+            messages.append(f"output: expected '{refused}', found {shown(first)}")
+        raise Faults(messages) from None
     try:
         sys.stdout.write(named_listing(site, read_listing(site, output)))
     except Fault as fault:

@@ -1,5 +1,6 @@
 """Numbers, rule files and bundles, in bytes: read as the cleaner reads them, and written. docs/FORMAT.md."""
 from .kinds import (
+    AFTER,
     BUNDLE,
     DISJOINT,
     FUNCTIONAL,
@@ -9,6 +10,7 @@ from .kinds import (
     MOST_NUMBER,
     MOST_ROLES,
     MOST_RULES,
+    NO_ITEM,
     ROLE_INCLUDED,
     RULES,
     SOME,
@@ -26,34 +28,41 @@ def number_bytes(value):
     return bytes(out)
 
 
-def number_at(data, at, side):
-    """The number at a place and the place after it, or its refusal."""
+def number_at(data, at, side, item=NO_ITEM):
+    """The number at a place, of an item or of none, and the place after it; or its refusal."""
     value = 0
     for size in range(3):
         if at + size >= len(data):
-            raise Refused(1, side, at)
+            raise Refused(1, side, at, item)
         byte = data[at + size]
         value += byte % 128 << 7 * size
         if byte < 128:
             if size > 0 and byte == 0:
-                raise Refused(2, side, at)
+                raise Refused(2, side, at, item)
             if value > MOST_NUMBER:
-                raise Refused(3, side, at)
+                raise Refused(3, side, at, item)
             return value, at + size + 1
-    raise Refused(3, side, at)
+    raise Refused(3, side, at, item)
 
 
 def count_at(data, at, limit, side):
     value, after = number_at(data, at, side)
     if value > limit:
-        raise Refused(4, side, at)
+        raise Refused(4, side, at, found=f"{value}; the limit is {limit}")
     return value, after
 
 
-def code_at(data, at, known, side):
-    value, after = number_at(data, at, side)
+def kind_at(data, at, item):
+    kind, after = number_at(data, at, RULES, item)
+    if kind > FUNCTIONAL:
+        raise Refused(11, RULES, at, item, kind)
+    return kind, after
+
+
+def code_at(data, at, known, side, item):
+    value, after = number_at(data, at, side, item)
     if not known(value):
-        raise Refused(5, side, at)
+        raise Refused(5, side, at, item, f"the code {value}")
     return value, after
 
 
@@ -67,23 +76,24 @@ def read_rules(data):
     roles, at = count_at(data, at, MOST_ROLES, RULES)
     count, at = count_at(data, at, MOST_RULES, RULES)
     rules, places = [], []
-    for _ in range(count):
+    for item in range(count):
         places.append(at)
-        kind, at = code_at(data, at, lambda k: k <= FUNCTIONAL, RULES)
+        kind, at = kind_at(data, at, item)
         if kind in (INCLUDED, DISJOINT):
             known = lambda code: concept_known(concepts, roles, code)
         else:
             known = lambda code: code // 2 < roles
         rule = [kind]
         for _ in range(1 if kind == FUNCTIONAL else 2):
-            code, at = code_at(data, at, known, RULES)
+            code, at = code_at(data, at, known, RULES, item)
             rule.append(code)
         rules.append(tuple(rule))
     if at < len(data):
-        raise Refused(7, RULES, at)
-    for rule, place in zip(rules, places):
-        if rule[0] == FUNCTIONAL and right_of(rules, rule[1]) is not None:
-            raise Refused(6, RULES, place)
+        raise Refused(AFTER, RULES, at)
+    for item, (rule, place) in enumerate(zip(rules, places)):
+        right = right_of(rules, rule[1]) if rule[0] == FUNCTIONAL else None
+        if right is not None:
+            raise Refused(6, RULES, place, item, f"rule {right}")
     return concepts, roles, rules
 
 
@@ -100,31 +110,51 @@ def read_bundle(data, concepts, roles):
     known = lambda p: p < concepts if p < SOME else p - SOME < roles
     count, at = count_at(data, 0, MOST_FACTS, BUNDLE)
     facts = []
-    for _ in range(count):
+    for item in range(count):
         place = at
-        predicate, at = code_at(data, at, known, BUNDLE)
-        subject, at = number_at(data, at, BUNDLE)
+        predicate, at = code_at(data, at, known, BUNDLE, item)
+        subject, at = number_at(data, at, BUNDLE, item)
         object_ = 0
         if predicate >= SOME:
-            object_, at = number_at(data, at, BUNDLE)
+            object_, at = number_at(data, at, BUNDLE, item)
         fact = (predicate, subject, object_)
         if facts and fact <= facts[-1]:
-            raise Refused(8, BUNDLE, place)
+            raise Refused(8, BUNDLE, place, item)
         facts.append(fact)
     if at < len(data):
-        raise Refused(7, BUNDLE, at)
+        raise Refused(AFTER, BUNDLE, at)
     return facts
 
 
-def write_rules(site):
-    numbers = [len(site.concepts), len(site.roles), len(site.rules)]
-    for rule in site.rules:
-        numbers += rule
+def numbers_bytes(numbers):
     return b"".join(map(number_bytes, numbers))
+
+
+def header_and_items(site, side):
+    """The bytes of a file's counts, and of each of its rules or facts."""
+    if side == RULES:
+        return numbers_bytes([len(site.concepts), len(site.roles), len(site.rules)]), list(map(numbers_bytes, site.rules))
+    return number_bytes(len(site.facts)), [numbers_bytes(fact[:2] if fact[0] < SOME else fact) for fact in site.facts]
+
+
+def write_rules(site):
+    header, items = header_and_items(site, RULES)
+    return header + b"".join(items)
 
 
 def write_bundle(site):
-    numbers = [len(site.facts)]
-    for predicate, subject, object_ in site.facts:
-        numbers += [predicate, subject] if predicate < SOME else [predicate, subject, object_]
-    return b"".join(map(number_bytes, numbers))
+    header, items = header_and_items(site, BUNDLE)
+    return header + b"".join(items)
+
+
+def item_at(site, side, place):
+    """The number of the rule or fact that has a byte of a site's file, or NO_ITEM in the header and after the last."""
+    header, items = header_and_items(site, side)
+    end = len(header)
+    if place < end:
+        return NO_ITEM
+    for number, item in enumerate(items):
+        end += len(item)
+        if place < end:
+            return number
+    return NO_ITEM

@@ -2,7 +2,7 @@
 import os
 
 from .files import read_bundle, read_rules, write_bundle, write_rules
-from .kinds import FILES, MEANINGS, Faults, Refused, Site
+from .kinds import FILES, Faults, Refused, Site
 from .lines import text_of
 from .names import name_all, read_names, write_names
 
@@ -36,17 +36,21 @@ def read_folder(folder):
     return rules, bundle, names
 
 
-def refused_file(folder, number, side, place):
+def refused_file(folder, refused):
     """The message for a refused file of a folder."""
-    return f"{os.path.join(folder, FILES[side])}: {Refused(number, side, place)}: {MEANINGS[number]}"
+    return f"{os.path.join(folder, FILES[refused.side])}: {refused.told()}"
+
+
+def site_of_folder(folder):
+    return site_of(*read_folder(folder), os.path.join(folder, FILES[2]))
 
 
 def load_folder(folder):
-    """The site of a folder."""
+    """The site of a folder; a refusal is told."""
     try:
-        return site_of(*read_folder(folder), os.path.join(folder, FILES[2]))
+        return site_of_folder(folder)
     except Refused as refused:
-        raise Faults([refused_file(folder, refused.number, refused.side, refused.place)]) from None
+        raise Faults([refused_file(folder, refused)]) from None
 
 
 def contents(site, file):

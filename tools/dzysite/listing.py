@@ -1,7 +1,7 @@
 """The cleaner's output: read, held to the site's facts, and printed with names."""
 import re
 
-from .kinds import BUNDLE, RULES, Fault, counted
+from .kinds import BUNDLE, MEANINGS, RULES, Fault, counted
 from .lines import shown
 from .words import fact_text
 
@@ -11,7 +11,7 @@ MARKS = (KEPT, ALONE, DISPUTED)
 PLAIN = r"(0|[1-9][0-9]{0,4})"
 COUNTS = re.compile(f"facts {PLAIN} kept {PLAIN} alone {PLAIN} disputed {PLAIN}")
 JUDGED = re.compile(f"{PLAIN} (?:(kept|alone)|disputed {PLAIN})")
-REFUSAL = re.compile(r"refused ([1-8]) in (rules|bundle) at (0|[1-9][0-9]*)")
+REFUSAL = re.compile(rf"refused ({'|'.join(map(str, MEANINGS))}) in (rules|bundle) at (0|[1-9][0-9]*)")
 
 
 def read_refusal(output):

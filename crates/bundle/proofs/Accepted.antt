@@ -63,12 +63,12 @@ module _ (h : Head) (s : List ℕ) (b : Facts) (e : checkBundle h s ≡ gives b)
   bundle-there =
       let k₃ : ℕ → ℕ → ℕ → Answer Facts = λ count start end. gives (record { count = count; start = start }) in
       let k₂ : Read ℕ → ℕ → Answer Facts = λ n end. endAt s end 1 then k₃ (n .value) (n .next) in
-      let w = went (countAt s 0 mostFacts 1) (λ n. factsFrom (predicateKnown h) s none (n .value) (n .next) then k₂ n) e in
-      let v = went (factsFrom (predicateKnown h) s none (w .value .value) (w .value .next)) (k₂ (w .value)) (w .rest) in
+      let w = went (countAt s 0 mostFacts 1) (λ n. factsFrom (predicateKnown h) s (n .value) (n .next) then k₂ n) e in
+      let v = went (factsFrom (predicateKnown h) s (w .value .value) (w .value .next)) (k₂ (w .value)) (w .rest) in
       let u = went (endAt s (v .value) 1) (k₃ (w .value .value) (w .value .next)) (v .rest) in
       let same : record { count = w .value .value; start = w .value .next } ≡ b = same-given (u .rest) in
       let c = count-there s 0 mostFacts 1 (w .value) (w .first) in
-      let r = walk-there (predicateKnown h) s none (w .value .value) (w .value .next) (v .value) (v .first) in
+      let r = walk-there (predicateKnown h) s (w .value .value) (w .value .next) (v .value) (v .first) in
       let there : BundleThere h s (record { count = w .value .value; start = w .value .next }) = record {
         count-number = c .number;
         count-within = c .within;

@@ -2,14 +2,14 @@
 use Prim.Native.Nat.{ℕ}
 use mathlib.Core.Path.{_≡_, refl}
 use mathlib.Core.List.{List, [], _∷_, map}
-use Rattle.number.specs.Answer.{Answer, refusal}
+use Rattle.number.specs.Answer.{Answer, refusal, ofItem}
 use Rattle.number.specs.Answer.Answer.{gives, refuses}
 use Rattle.number.specs.Number.{third, second, formOf, numberAt}
 use Rattle.site.specs.declared.fact.Fact.{Fact}
 use Rattle.site.specs.Codes.{predicateDeclared}
-use Rattle.site.specs.Items.{countAt, codeAt, endAt}
+use Rattle.site.specs.Items.{testedAt, atMost, itemsFrom, endAt}
 use Rattle.rules.specs.declared.head.Head.{Head}
-use Rattle.bundle.specs.Bundle.{factAt, factsFrom, factsIn, checkBundle, readBundle}
+use Rattle.bundle.specs.Bundle.{factAt, nextFact, factsIn, checkBundle, readBundle}
 
 pub record Case : Type 0 where
   pub bytes : List ℕ
@@ -18,8 +18,13 @@ pub record Case : Type 0 where
 abbrev pub is : List ℕ → List Fact → Case
 is bytes facts = record { bytes = bytes; expected = gives facts }
 
+-- refused in the header or after the last fact
 abbrev pub refused : List ℕ → ℕ → ℕ → Case
 refused bytes number place = record { bytes = bytes; expected = refuses (refusal number 1 place) }
+
+-- refused in a fact
+abbrev pub refusedIn : ℕ → List ℕ → ℕ → ℕ → Case
+refusedIn item bytes number place = record { bytes = bytes; expected = refuses (ofItem item (refusal number 1 place)) }
 
 abbrev pub fact : ℕ → ℕ → ℕ → Fact
 fact predicate subject object = record { predicate = predicate; subject = subject; object = object }
@@ -35,14 +40,14 @@ cases =
     ∷ is (0x01 ∷ 0x01 ∷ 0x09 ∷ []) (fact 1 9 0 ∷ [])
     ∷ is (0x00 ∷ []) []
     ∷ refused [] 1 0
-    ∷ refused (0x80 ∷ 0x20 ∷ []) 1 2
+    ∷ refusedIn 0 (0x80 ∷ 0x20 ∷ []) 1 2
     ∷ refused (0x81 ∷ 0x20 ∷ []) 4 0
-    ∷ refused (0x02 ∷ 0x00 ∷ 0x07 ∷ 0x00 ∷ 0x07 ∷ []) 8 3
-    ∷ refused (0x01 ∷ 0x02 ∷ 0x07 ∷ []) 5 1
-    ∷ refused (0x01 ∷ 0x40 ∷ 0x07 ∷ []) 1 3
+    ∷ refusedIn 1 (0x02 ∷ 0x00 ∷ 0x07 ∷ 0x00 ∷ 0x07 ∷ []) 8 3
+    ∷ refusedIn 0 (0x01 ∷ 0x02 ∷ 0x07 ∷ []) 5 1
+    ∷ refusedIn 0 (0x01 ∷ 0x40 ∷ 0x07 ∷ []) 1 3
     ∷ refused (0x00 ∷ 0x00 ∷ []) 7 1
     ∷ []
 
 pub bundles : map (λ c. readBundle worked (c .bytes)) cases ≡ map (λ c. c .expected) cases
-unfolding numberAt formOf second third countAt codeAt endAt predicateDeclared factAt factsFrom factsIn checkBundle readBundle
+unfolding numberAt formOf second third testedAt atMost itemsFrom endAt predicateDeclared factAt nextFact factsIn checkBundle readBundle
 bundles = refl

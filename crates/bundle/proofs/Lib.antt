@@ -9,3 +9,5 @@ pub mod Refusals
 pub mod RoundTrips
 pub mod Runs
 pub mod SubLawful
+pub mod OfFaults
+pub mod ItemCases

@@ -1,29 +1,29 @@
 -- "no valid file is over 28,674 bytes", and the reading of a longer one looks at no byte past them: two bytes of the count,
 -- then at most seven for each of 4,096 facts, since a declared predicate has one byte.
 use Prim.Native.Nat.{ℕ, zero, suc, _+_, _-_, _*_, _≤_, _<_}
-use mathlib.Core.Path.{_≡_, refl}
+use mathlib.Core.Path.{_≡_, refl, ap}
 use mathlib.Core.Bool.{Bool, true, false, cond}
 use mathlib.Core.List.{List}
 use lib.ListN.{length, take}
 use lib.Dec.{ltb}
 use native.Mathlib.Omega.{arith}
 use borrow.Author.Tests.{lt-ltb, ltb-true, ltb-false}
-use Rattle.number.specs.Answer.{Read, _then_}
+use Rattle.number.specs.Answer.{Read, about, over, _then_}
 use Rattle.number.specs.Answer.Answer.{gives}
 use Rattle.number.specs.Number.{numberAt}
-use Rattle.number.proofs.Answers.{then-same}
+use Rattle.number.proofs.Answers.{about-given, then-same}
 use Rattle.number.proofs.Laws.{Bytes, two-bytes, bounds, one-form, one-byte, same-number}
 use Rattle.site.specs.declared.fact.Fact.{Fact}
 use Rattle.site.specs.Codes.{predicateDeclared}
-use Rattle.site.specs.Items.{countAt, codeAt, endAt}
+use Rattle.site.specs.Items.{atMost, countAt, codeAt, itemsFrom, endAt}
 use Rattle.site.specs.Limits.{mostFacts, mostNumber, mostRoles, mostThing}
-use Rattle.site.proofs.There.{count-there, code-there, same-count, same-code}
+use Rattle.site.proofs.There.{tested-there, count-there, same-tested}
 use Rattle.rules.specs.declared.head.Head.{Head}
-use Rattle.bundle.specs.Bundle.{Last, factAt, factsFrom, predicateKnown, checkBundle}
-use Rattle.bundle.specs.Bundle.Last.{none, after}
+use Rattle.bundle.specs.Bundle.{Last, factAt, Stand, nextFact, factsFrom, predicateKnown, checkBundle}
+use Rattle.bundle.specs.Bundle.Last.{none}
 use Rattle.bundle.specs.Told.{factRest}
 use Rattle.bundle.specs.declared.facts.Facts.{Facts}
-use Rattle.bundle.proofs.Runs.{ObjectThere, FactThere, fact-there, fact-by-rest, Run, walk-there}
+use Rattle.bundle.proofs.Runs.{ObjectThere, FactThere, fact-by-rest, Run, next-there, walk-there}
 use Rattle.bundle.proofs.Runs.ObjectThere.{of-concept, of-role}
 use Rattle.bundle.proofs.Runs.Run.{stop, more}
 use Rattle.bundle.proofs.Accepted.{bundle-there}
@@ -70,9 +70,9 @@ module _ (s : List ℕ) (bytes : Bytes s) where
         let size = one-form s 0 mostNumber 1 (n .value) (n .next) (c .number) bytes .size in
         omega (arith, two-bytes (n .value) (omega (arith, c .within)))
 
-    walk-near : (n : Read ℕ) (end : ℕ) → countAt s 0 mostFacts 1 ≡ gives n → factsFrom (predicateKnown h) s none (n .value) (n .next) ≡ gives end → end ≤ longest
+    walk-near : (n : Read ℕ) (end : ℕ) → countAt s 0 mostFacts 1 ≡ gives n → factsFrom (predicateKnown h) s (n .value) (n .next) ≡ gives end → end ≤ longest
     walk-near n end e f =
-        let w = walk-there (predicateKnown h) s none (n .value) (n .next) end f in
+        let w = walk-there (predicateKnown h) s (n .value) (n .next) end f in
         let within = count-there s 0 mostFacts 1 n e .within in
         omega (arith, run-near (w .run), w .count, start-near n e)
 
@@ -88,20 +88,25 @@ module _ (s t : List ℕ) (n : ℕ) (agree : take n s ≡ take n t) where
   module _ (bytes : Bytes s) (h : Head) (few : h .roles ≤ mostRoles) where
     same-fact : (at : ℕ) → at + 7 ≤ n → factAt (predicateKnown h) s at ≡ factAt (predicateKnown h) t at
     same-fact at k =
-        rw (fact-by-rest (predicateKnown h) s at, fact-by-rest (predicateKnown h) t at, ← (same-code s t n agree at (omega arith) (predicateKnown h) 1))
+        rw (fact-by-rest (predicateKnown h) s at, fact-by-rest (predicateKnown h) t at, ← (same-tested s t n agree at (omega arith) (predicateKnown h) 5 1))
         (then-same (codeAt s at (predicateKnown h) 1) _ _
         (λ p e.
-        let c = code-there s at (predicateKnown h) 1 p e in
+        let c = tested-there s at (predicateKnown h) 5 1 p e in
         same-rest (p .value) (p .next) (omega (arith, after-predicate s bytes h at p few (c .number) (c .holds)))))
 
-    same-facts : (last : Last) (m at : ℕ) → at + 7 * m ≤ n → factsFrom (predicateKnown h) s last m at ≡ factsFrom (predicateKnown h) t last m at
-    unfolding factsFrom
-    same-facts last zero at k = refl
-    same-facts last (suc m) at k =
-        rw (← (same-fact at (omega arith)))
-        (then-same (factAt (predicateKnown h) s at) _ _
-        (λ f e.
-        rw (same-facts (after (f .value)) m (f .next) (omega (arith, fact-near s bytes h few (fact-there (predicateKnown h) s at (f .value) (f .next) e))))))
+    same-next : (here : Stand) → here .at + 7 ≤ n → nextFact (predicateKnown h) s here ≡ nextFact (predicateKnown h) t here
+    unfolding nextFact
+    same-next here fits = rw (same-fact (here .at) fits)
+
+    same-facts : (k m : ℕ) (here : Stand) → here .at + 7 * m ≤ n → itemsFrom (nextFact (predicateKnown h) s) k m here ≡ itemsFrom (nextFact (predicateKnown h) t) k m here
+    unfolding itemsFrom
+    same-facts k zero here fits = refl
+    same-facts k (suc m) here fits =
+        rw (← (same-next here (omega arith)))
+        (then-same (about k (nextFact (predicateKnown h) s here)) _ _
+        (λ there e.
+        let next = next-there (predicateKnown h) s here there (about-given k (nextFact (predicateKnown h) s here) e) in
+        same-facts (k + 1) m there (omega (arith, fact-near s bytes h few (next .is-there)))))
 
 module _ (h : Head) (few : h .roles ≤ mostRoles) where
   -- an accepted bundle has at most so many bytes
@@ -120,11 +125,11 @@ module _ (h : Head) (few : h .roles ≤ mostRoles) where
     pub past-longest : Bytes s → take (longest + 1) s ≡ take (longest + 1) t → checkBundle h s ≡ checkBundle h t
     unfolding checkBundle
     past-longest bytes agree =
-        rw (← (same-count s t (longest + 1) agree 0 (omega arith) mostFacts 1))
+        rw (← (same-tested s t (longest + 1) agree 0 (omega arith) (atMost mostFacts) 4 1))
         (then-same (countAt s 0 mostFacts 1) _ _
         (λ m e.
         let within = count-there s 0 mostFacts 1 m e .within in
         let start = start-near s bytes h few m e in
-        rw (← (same-facts s t (longest + 1) agree bytes h few none (m .value) (m .next) (omega arith)))
-        (then-same (factsFrom (predicateKnown h) s none (m .value) (m .next)) _ _
+        rw (← (same-facts s t (longest + 1) agree bytes h few 0 (m .value) (record { last = none; at = m .next }) (omega arith)))
+        (then-same (factsFrom (predicateKnown h) s (m .value) (m .next)) _ _
         (λ end f. rw (after-both end (walk-near s bytes h few m end e f))))))

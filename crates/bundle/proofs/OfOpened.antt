@@ -3,7 +3,7 @@ use Prim.Native.Nat.{ℕ}
 use mathlib.Core.Path.{_≡_, subst}
 use mathlib.Core.List.{List}
 use borrow.Author.Needs.{needs}
-use Rattle.number.specs.Answer.{Answer, refusal, _then_}
+use Rattle.number.specs.Answer.{Answer, noRefusal, _then_}
 use Rattle.number.specs.Answer.Answer.{gives}
 use Rattle.number.specs.declared.refusal.Refusal.{Refusal}
 use Rattle.number.proofs.Answers.{given-once as same-given, went}
@@ -22,7 +22,7 @@ use Rattle.bundle.specs.declared.open.Inputs.{Inputs}
 use Rattle.bundle.specs.declared.open.Opened.{Opened}
 use Rattle.bundle.specs.declared.open.Opened.the-variants.{Accepted as Ready, Refused as NotReady}
 
-pub opened-no-refusal : (o : Opened) (i : Inputs) → o ≡ Ready i → refusal 0 0 0 ≡ openedRefusal o
+pub opened-no-refusal : (o : Opened) (i : Inputs) → o ≡ Ready i → noRefusal ≡ openedRefusal o
 opened-no-refusal o i e = rw e
 
 module _ (rules bundle : List ℕ) (n : RulesRead) (is : rulesTold n ≡ checkRules rules) where

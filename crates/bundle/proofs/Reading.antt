@@ -1,12 +1,11 @@
 -- What the answers of the readers below say of a fact, a walk and a bundle: one law for each way out of the reading functions.
-use Prim.Native.Nat.{ℕ, suc, _-_, _≤_, _<_}
+use Prim.Native.Nat.{ℕ, _-_, _≤_, _<_}
 use mathlib.Core.Path.{_≡_, refl, sym, ap, _∙_}
-use mathlib.Core.Bool.{Bool, true, false, cond}
+use mathlib.Core.Bool.{Bool, true, false}
 use mathlib.Core.List.{List}
 use lib.Dec.{ltb}
-use native.Mathlib.Omega.{arith}
 use borrow.Author.Needs.{needs}
-use Rattle.number.specs.Answer.{Answer, Read, refusal, _then_}
+use Rattle.number.specs.Answer.{Answer, refusal, noRefusal, ofItem, over, _then_}
 use Rattle.number.specs.Answer.Answer.{gives, refuses}
 use Rattle.number.specs.Number.{numberAt}
 use Rattle.number.specs.Told.{told, refusalIn}
@@ -17,14 +16,15 @@ use Rattle.site.specs.declared.fact.Fact.{Fact}
 use Rattle.site.specs.declared.items.End.{End}
 use Rattle.site.specs.declared.items.End.the-variants.{At, Refused as RefusedEnd}
 use Rattle.site.specs.Codes.{predicateDeclared}
-use Rattle.site.specs.Items.{countAt, codeAt, endAt}
+use Rattle.site.specs.Items.{testedAt, countAt, itemsFrom, endAt}
 use Rattle.site.specs.Kinds.{below, ofConcept}
 use Rattle.site.specs.Limits.{mostFacts, mostThing}
 use Rattle.site.specs.Told.{endTold, endRefusal}
+use Rattle.site.proofs.Numbered.{Left, left-all, left-none, left-refused, left-next}
 use Rattle.rules.specs.declared.head.Head.{Head}
-use Rattle.bundle.specs.Bundle.{factAt, ascends, factsFrom, predicateKnown, checkBundle}
-use Rattle.bundle.specs.Bundle.Last.{none, after}
-use Rattle.bundle.specs.Told.{factTold, factRefusal, stepTold, stepRefusal, factRest, lastOf, beforeFirst, afterFact, stepFrom}
+use Rattle.bundle.specs.Bundle.{factAt, ascends, Stand, nextFact, factsFrom, predicateKnown, checkBundle}
+use Rattle.bundle.specs.Bundle.Last.{none}
+use Rattle.bundle.specs.Told.{factTold, factRefusal, stepTold, stepRefusal, factRest, lastOf, beforeFirst, afterFact, standOf}
 use Rattle.bundle.specs.declared.before.Before.{Before}
 use Rattle.bundle.specs.declared.one.FactRead.{FactRead}
 use Rattle.bundle.specs.declared.one.FactRead.the-variants.{Read as ReadFact, Refused as RefusedFact}
@@ -33,10 +33,10 @@ use Rattle.bundle.specs.declared.walk.Step.{Step}
 use Rattle.bundle.specs.declared.walk.Step.the-variants.{On, Refused as RefusedStep}
 
 -- what was read has no refusal
-pub fact-no-refusal : (a : FactRead) (f : Fact) (next : ℕ) → a ≡ ReadFact f next → refusal 0 0 0 ≡ factRefusal a
+pub fact-no-refusal : (a : FactRead) (f : Fact) (next : ℕ) → a ≡ ReadFact f next → noRefusal ≡ factRefusal a
 fact-no-refusal a f next is = rw is
 
-pub step-no-refusal : (a : Step) (w : Walk) → a ≡ On w → refusal 0 0 0 ≡ stepRefusal a
+pub step-no-refusal : (a : Step) (w : Walk) → a ≡ On w → noRefusal ≡ stepRefusal a
 step-no-refusal a w is = rw is
 
 -- a number of the bundle that was read
@@ -50,7 +50,7 @@ module _ (s : List ℕ) (at : ℕ) (n : Num) (is : told n ≡ numberAt s at most
     subject-refused predicate = rw refused-there
 
     pub predicate-refused : (known : ℕ → Bool) → refuses r ≡ factAt known s at
-    unfolding factAt codeAt
+    unfolding factAt testedAt
     predicate-refused known = rw refused-there
 
   module _ (a next : ℕ) (read : n ≡ Value a next) where
@@ -60,17 +60,17 @@ module _ (s : List ℕ) (at : ℕ) (n : Num) (is : told n ≡ numberAt s at most
     -- the number is a predicate
     pub predicate-unknown : (concepts roles : ℕ) (t : Bool) → t ≡ predicateDeclared concepts roles a → t ≡ false
         → refuses (refusal 5 1 at) ≡ factAt (predicateDeclared concepts roles) s at
-    unfolding factAt codeAt
+    unfolding factAt testedAt
     predicate-unknown concepts roles t is-t f = rw (value-there, ← is-t, f)
 
     module _ (r : FactRead) (rest : factTold r ≡ factRest s a next) where
       pub predicate-known : (concepts roles : ℕ) (t : Bool) → t ≡ predicateDeclared concepts roles a → t ≡ true
           → factTold r ≡ factAt (predicateDeclared concepts roles) s at
-      unfolding factAt codeAt factRest
+      unfolding factAt testedAt factRest
       predicate-known concepts roles t is-t f = rw (value-there, ← is-t, f) rest
 
       pub predicate-any : factTold r ≡ factAt (λ _. true) s at
-      unfolding factAt codeAt factRest
+      unfolding factAt testedAt factRest
       predicate-any = rw value-there rest
 
     -- the number is a subject
@@ -114,64 +114,36 @@ module _ (b : Before) (f : Fact) where
 
 -- one step
 module _ (h : Head) (s : List ℕ) (w : Walk) (got : FactRead) (is : factTold got ≡ factAt (predicateKnown h) s (w .at)) where
-  pub step-refused : (r x : Refusal) → got ≡ RefusedFact x → r ≡ factRefusal got → refuses r ≡ stepFrom (predicateKnown h) s w
-  unfolding stepFrom
+  pub step-refused : (r x : Refusal) → got ≡ RefusedFact x → r ≡ factRefusal got → refuses r ≡ nextFact (predicateKnown h) s (standOf w)
+  unfolding nextFact
   step-refused r x stopped same = rw (← is, same, stopped)
 
   module _ (f : Fact) (next : ℕ) (read : got ≡ ReadFact f next) (t : Bool) (is-t : t ≡ ascends (lastOf (w .before)) f) where
-    pub step-on : (b : Before) → b ≡ afterFact f → t ≡ true → gives (record { at = next; before = b }) ≡ stepFrom (predicateKnown h) s w
-    unfolding stepFrom
+    pub step-on : (b : Before) → b ≡ afterFact f → t ≡ true → gives (standOf (record { at = next; before = b })) ≡ nextFact (predicateKnown h) s (standOf w)
+    unfolding nextFact lastOf
     step-on b is-b e = rw (← is, read, ← is-t, e, is-b)
 
-    pub step-order : t ≡ false → refuses (refusal 8 1 (w .at)) ≡ stepFrom (predicateKnown h) s w
-    unfolding stepFrom
+    pub step-order : t ≡ false → refuses (refusal 8 1 (w .at)) ≡ nextFact (predicateKnown h) s (standOf w)
+    unfolding nextFact
     step-order e = rw (← is, read, ← is-t, e)
 
--- the facts from a walk on
-abbrev pub restOf : (ℕ → Bool) → List ℕ → Walk → ℕ → Answer ℕ
-restOf known s w n = factsFrom known s (lastOf (w .before)) n (w .at)
-
+-- the walk over a bundle's facts
 module _ (known : ℕ → Bool) (s : List ℕ) where
-  pub walk-starts : (n start : ℕ) (b : Before) → b ≡ beforeFirst → factsFrom known s none n start ≡ restOf known s (record { at = start; before = b }) n
-  walk-starts n start b is = rw (is, before-first)
+  pub walk-starts : (n start : ℕ) (b : Before) → b ≡ beforeFirst
+      → Left (nextFact known s) (itemsFrom (nextFact known s) 0 n (record { last = none; at = start })) n n (standOf (record { at = start; before = b }))
+  walk-starts n start b is = rw (is, before-first) (left-all (nextFact known s) n (record { last = none; at = start }))
 
-  by-test : (n at : ℕ) (f : Read Fact) (t : Bool)
-      → cond t (factsFrom known s (after (f .value)) n (f .next)) (refuses (refusal 8 1 at))
-      ≡ (cond t (gives (record { at = f .next; before = afterFact (f .value) })) (refuses (refusal 8 1 at)) then λ w. restOf known s w n)
-  unfolding lastOf
-  by-test n at f true = refl
-  by-test n at f false = refl
+  module _ (whole : Answer Stand) (all left : ℕ) (w : Walk) (so : Left (nextFact known s) whole all left (standOf w)) where
+    module _ (more : 0 < left) (got : Step) (is : stepTold got ≡ nextFact known s (standOf w)) where
+      pub walk-refused : (x r v : Refusal) → got ≡ RefusedStep x → r ≡ stepRefusal got → v ≡ ofItem (all - left) r → refuses v ≡ over (λ end. end .at) whole
+      walk-refused x r v stopped handed numbered =
+          rw (left-refused (nextFact known s) whole all left (standOf w) so more x (sym is ∙ ap stepTold stopped), numbered, handed, stopped)
 
-  by-fact : (w : Walk) (n : ℕ) (a : Answer (Read Fact))
-      → (a then λ f. cond (ascends (lastOf (w .before)) (f .value)) (factsFrom known s (after (f .value)) n (f .next)) (refuses (refusal 8 1 (w .at))))
-      ≡ ((a then λ f. cond (ascends (lastOf (w .before)) (f .value)) (gives (record { at = f .next; before = afterFact (f .value) })) (refuses (refusal 8 1 (w .at))))
-      then λ w′. restOf known s w′ n)
-  by-fact w n (gives f) = by-test n (w .at) f (ascends (lastOf (w .before)) (f .value))
-  by-fact w n (refuses r) = refl
+      pub walk-on : (w′ : Walk) → got ≡ On w′ → Left (nextFact known s) whole all (left - 1) (standOf w′)
+      walk-on w′ on = left-next (nextFact known s) whole all left (standOf w) so more (standOf w′) (sym is ∙ ap stepTold on)
 
-  -- one turn of the walk
-  pub one-turn : (w : Walk) (n : ℕ) → restOf known s w (suc n) ≡ (stepFrom known s w then λ w′. restOf known s w′ n)
-  unfolding factsFrom stepFrom
-  one-turn w n = by-fact w n (factAt known s (w .at))
-
-  turn-of : (w : Walk) (left : ℕ) → 0 < left → restOf known s w left ≡ (stepFrom known s w then λ w′. restOf known s w′ (left - 1))
-  turn-of w left h =
-      let e : left ≡ suc (left - 1) = omega arith in
-      ap (restOf known s w) e ∙ one-turn w (left - 1)
-
-  module _ (n start : ℕ) (w : Walk) (left : ℕ) (inv : factsFrom known s none n start ≡ restOf known s w left) where
-    module _ (more : 0 < left) (got : Step) (is : stepTold got ≡ stepFrom known s w) where
-      pub walk-refused : (r x : Refusal) → got ≡ RefusedStep x → r ≡ stepRefusal got → refuses r ≡ factsFrom known s none n start
-      walk-refused r x stopped same = rw (inv, turn-of w left more, ← is, same, stopped)
-
-      pub walk-on : (w′ : Walk) → got ≡ On w′ → factsFrom known s none n start ≡ restOf known s w′ (left - 1)
-      walk-on w′ on = rw (inv, turn-of w left more, ← is, on)
-
-    pub walk-ends : left ≤ 0 → gives (w .at) ≡ factsFrom known s none n start
-    unfolding factsFrom
-    walk-ends h =
-        let e : left ≡ 0 = omega arith in
-        rw (inv, e)
+    pub walk-ends : left ≤ 0 → gives (w .at) ≡ over (λ end. end .at) whole
+    walk-ends over-all = rw (left-none (nextFact known s) whole all left (standOf w) so over-all)
 
 -- the whole bundle
 module _ (h : Head) (s : List ℕ) (n : Num) (is : told n ≡ countAt s 0 mostFacts 1) where
@@ -179,7 +151,7 @@ module _ (h : Head) (s : List ℕ) (n : Num) (is : told n ≡ countAt s 0 mostFa
   unfolding checkBundle
   count-refused r x stopped same = rw (← is, same, stopped)
 
-  module _ (count start : ℕ) (read : n ≡ Value count start) (e : End) (walked : endTold e ≡ factsFrom (predicateKnown h) s none count start) where
+  module _ (count start : ℕ) (read : n ≡ Value count start) (e : End) (walked : endTold e ≡ factsFrom (predicateKnown h) s count start) where
     pub facts-refused : (r x : Refusal) → e ≡ RefusedEnd x → r ≡ endRefusal e → refuses r ≡ checkBundle h s
     unfolding checkBundle
     facts-refused r x stopped same = rw (← is, read, ← walked, same, stopped)

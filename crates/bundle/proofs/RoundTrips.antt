@@ -13,7 +13,7 @@ use Rattle.number.specs.Number.{numberAt, bytesOf, threeBytes}
 use Rattle.number.proofs.Laws.{Bytes, one-form, reads-back}
 use Rattle.number.proofs.Answers.{never, given-once as same-given}
 use Rattle.site.specs.declared.fact.Fact.{Fact}
-use Rattle.site.specs.Items.{countAt, endAt}
+use Rattle.site.specs.Items.{testedAt, atMost, endAt}
 use Rattle.site.specs.Kinds.{ofConcept}
 use Rattle.site.specs.Limits.{mostFacts, mostNumber, mostRoles, mostThing}
 use Rattle.site.specs.Lists.{each}
@@ -112,12 +112,12 @@ module _ (h : Head) (few : h .roles ≤ mostRoles) where
         number-there (bundleOf facts) [] (each factBytes facts) (length facts) 0 (length (bytesOf (length facts))) mostNumber 1 refl refl (omega arith) (omega arith) (omega arith)
 
     pub written-accepted : checkBundle h (bundleOf facts) ≡ gives (writtenHead facts)
-    unfolding checkBundle countAt endAt
+    unfolding checkBundle testedAt atMost endAt
     written-accepted =
         rw (
           written-count,
           le-leb (length facts) mostFacts (lawful .few),
-          run-walks (predicateKnown h) (bundleOf facts) written-run,
+          run-walks (predicateKnown h) (bundleOf facts) written-run 0,
           le-ltb (length (bundleOf facts)) (length (bundleOf facts)) (omega arith),
         )
 

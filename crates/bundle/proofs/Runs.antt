@@ -1,22 +1,22 @@
 -- Facts that are read one after the other: what a fact's numbers are where it is read, and an accepted walk as one list of such steps.
 -- A run is what acceptance gives, and a run gives acceptance; every law about a bundle's facts goes by the run's steps.
-use Prim.Native.Nat.{ℕ, zero, suc}
-use mathlib.Core.Path.{_≡_, refl, sym, ap, ap₂, _∙_}
+use Prim.Native.Nat.{ℕ, zero, suc, _+_}
+use mathlib.Core.Path.{_≡_, refl, sym, ap, ap₂, subst, _∙_}
 use mathlib.Core.Bool.{Bool, true, false, cond}
 use mathlib.Core.List.{List, [], _∷_}
 use lib.ListN.{length}
 use lib.Dec.{ltb}
-use Rattle.number.specs.Answer.{Answer, Read, refusal, _then_}
+use Rattle.number.specs.Answer.{Answer, Read, refusal, about, over, _then_}
 use Rattle.number.specs.Answer.Answer.{gives, refuses}
 use Rattle.number.specs.Number.{numberAt}
-use Rattle.number.proofs.Answers.{given-once as same-given, passed, went}
+use Rattle.number.proofs.Answers.{given-once as same-given, about-given, over-given, passed, went}
 use Rattle.site.specs.declared.fact.Fact.{Fact}
-use Rattle.site.specs.Items.{codeAt}
+use Rattle.site.specs.Items.{testedAt, codeAt, itemsFrom}
 use Rattle.site.specs.Kinds.{ofConcept}
 use Rattle.site.specs.Limits.{mostThing}
-use Rattle.site.proofs.There.{code-there}
-use Rattle.bundle.specs.Bundle.{Last, factAt, ascends, factsFrom, factsIn}
-use Rattle.bundle.specs.Bundle.Last.{after}
+use Rattle.site.proofs.There.{tested-there}
+use Rattle.bundle.specs.Bundle.{Last, factAt, ascends, Stand, nextFact, factsFrom, factsIn}
+use Rattle.bundle.specs.Bundle.Last.{none, after}
 use Rattle.bundle.specs.Told.{factRest}
 
 -- the object of a fact: none for a concept's, and a number for a role's
@@ -90,7 +90,7 @@ module _ (known : ℕ → Bool) (s : List ℕ) (at : ℕ) (f : Fact) (next : ℕ
   fact-there e =
       let w = went (codeAt s at known 1) (λ p. factRest s (p .value) (p .next)) (sym (fact-by-rest known s at) ∙ e) in
       let p = w .value in
-      let c = code-there s at known 1 p (w .first) in
+      let c = tested-there s at known 5 1 p (w .first) in
       let v = went (numberAt s (p .next) mostThing 1) (λ a. factObject s (p .value) a) (sym (rest-by-object s (p .value) (p .next)) ∙ w .rest) in
       let o = by-kind s (p .value) (v .value) f next (ltb (p .value) 64) refl (v .rest) in
       record {
@@ -110,7 +110,7 @@ module _ (known : ℕ → Bool) (s : List ℕ) (at : ℕ) (f : Fact) (next : ℕ
 
   -- and that is enough for its reading
   pub fact-read : FactThere known s at f next → factAt known s at ≡ gives (record { value = f; next = next })
-  unfolding codeAt
+  unfolding testedAt
   fact-read t =
       rw (fact-by-rest known s at, t .predicate, t .holds, rest-by-object s (f .predicate) (t .place-of-subject), t .subject)
       (after-object (t .object))
@@ -139,6 +139,28 @@ pub record WalkThere (known : ℕ → Bool) (s : List ℕ) (last : Last) (n at e
   pub count : length (factsIn s n at) ≡ n
 
 module _ (known : ℕ → Bool) (s : List ℕ) where
+  -- the next fact that was read
+  pub record NextThere (here there : Stand) : Type 0 where
+    pub read : Fact
+    pub is-there : FactThere known s (here .at) read (there .at)
+    pub up : ascends (here .last) read ≡ true
+    pub after-it : after read ≡ there .last
+
+  pub next-there : (here there : Stand) → nextFact known s here ≡ gives there → NextThere here there
+  unfolding nextFact
+  next-there here there e =
+      let w = went (factAt known s (here .at)) (λ f. cond (ascends (here .last) (f .value)) (gives (record { last = after (f .value); at = f .next })) (refuses (refusal 8 1 (here .at)))) e in
+      let f = w .value in
+      let on : Stand = record { last = after (f .value); at = f .next } in
+      let t = passed (ascends (here .last) (f .value)) (gives on) (refusal 8 1 (here .at)) (w .rest) in
+      let same : on ≡ there = same-given (t .answer) in
+      record {
+        read = f .value;
+        is-there = subst (λ (x : Stand). FactThere known s (here .at) (f .value) (x .at)) same (fact-there known s (here .at) (f .value) (f .next) (w .first));
+        up = t .test;
+        after-it = ap (λ (x : Stand). x .last) same;
+      }
+
   one-more : (last : Last) (n at : ℕ) (f : Fact) (next end : ℕ) → FactThere known s at f next → ascends last f ≡ true
       → WalkThere known s (after f) n next end → WalkThere known s last (suc n) at end
   unfolding factsIn
@@ -146,20 +168,26 @@ module _ (known : ℕ → Bool) (s : List ℕ) where
       let e = fact-read (λ _. true) s at f next (any-there there) in
       record { run = rw e (more there up (rest .run)); count = rw e (ap suc (rest .count)) }
 
-  pub walk-there : (last : Last) (n at end : ℕ) → factsFrom known s last n at ≡ gives end → WalkThere known s last n at end
-  unfolding factsFrom factsIn
-  walk-there last zero at end e = record { run = rw (same-given e) stop; count = refl }
-  walk-there last (suc n) at end e =
-      let w = went (factAt known s at) (λ f. cond (ascends last (f .value)) (factsFrom known s (after (f .value)) n (f .next)) (refuses (refusal 8 1 at))) e in
-      let t = passed (ascends last (w .value .value)) (factsFrom known s (after (w .value .value)) n (w .value .next)) (refusal 8 1 at) (w .rest) in
-      one-more last n at (w .value .value) (w .value .next) end (fact-there known s at (w .value .value) (w .value .next) (w .first)) (t .test)
-      (walk-there (after (w .value .value)) n (w .value .next) end (t .answer))
+  items-there : (k n : ℕ) (here end : Stand) → itemsFrom (nextFact known s) k n here ≡ gives end → WalkThere known s (here .last) n (here .at) (end .at)
+  unfolding itemsFrom factsIn
+  items-there k zero here end e = record { run = rw (same-given e) stop; count = refl }
+  items-there k (suc n) here end e =
+      let w = went (about k (nextFact known s here)) (itemsFrom (nextFact known s) (k + 1) n) e in
+      let t = next-there here (w .value) (about-given k (nextFact known s here) (w .first)) in
+      one-more (here .last) n (here .at) (t .read) (w .value .at) (end .at) (t .is-there) (t .up)
+      (subst (λ (l : Last). WalkThere known s l n (w .value .at) (end .at)) (sym (t .after-it)) (items-there (k + 1) n (w .value) end (w .rest)))
+
+  pub walk-there : (n at end : ℕ) → factsFrom known s n at ≡ gives end → WalkThere known s none n at end
+  walk-there n at end e =
+      let o = over-given (λ x. x .at) (itemsFrom (nextFact known s) 0 n (record { last = none; at = at })) e in
+      subst (λ (p : ℕ). WalkThere known s none n at p) (o .told) (items-there 0 n (record { last = none; at = at }) (o .value) (o .given))
 
   -- a run is accepted
-  pub run-walks : {last : Last} {fs : List Fact} {at end : ℕ} → Run known s last fs at end → factsFrom known s last (length fs) at ≡ gives end
-  unfolding factsFrom
-  run-walks stop = refl
-  run-walks (more {f = f} {at = at} {next = next} there up run) = rw (fact-read known s at f next there, up) (run-walks run)
+  pub run-walks : {last : Last} {fs : List Fact} {at end : ℕ} → Run known s last fs at end → (k : ℕ)
+      → over (λ x. x .at) (itemsFrom (nextFact known s) k (length fs) (record { last = last; at = at })) ≡ gives end
+  unfolding itemsFrom nextFact
+  run-walks stop k = refl
+  run-walks (more {f = f} {at = at} {next = next} there up run) k = rw (fact-read known s at f next there, up) (run-walks run (k + 1))
 
   -- and its facts are what a later pass reads
   pub run-reads : {last : Last} {fs : List Fact} {at end : ℕ} → Run known s last fs at end → factsIn s (length fs) at ≡ fs

@@ -12,7 +12,7 @@ use Rattle.site.specs.Kinds.{below, ofConcept}
 use Rattle.site.specs.Codes.{predicateDeclared}
 use Rattle.site.specs.Limits.{mostFacts, mostThing}
 use Rattle.site.specs.Lists.{each}
-use Rattle.site.specs.Items.{countAt, codeAt, endAt, onward}
+use Rattle.site.specs.Items.{countAt, codeAt, itemsFrom, endAt, onward}
 use Rattle.rules.specs.declared.head.Head.{Head}
 use Rattle.bundle.specs.declared.facts.Facts.{Facts}
 
@@ -36,12 +36,20 @@ abbrev pub ascends : Last → Fact → Bool
 ascends none f = true
 ascends (after g) f = below g f
 
--- so many facts from a place on, each declared and above the one before it: the place after them
-unfoldable pub factsFrom : (ℕ → Bool) → List ℕ → Last → ℕ → ℕ → Answer ℕ
-factsFrom known s last zero at = gives at
-factsFrom known s last (suc n) at =
-    factAt known s at then λ f.
-    cond (ascends last (f .value)) (factsFrom known s (after (f .value)) n (f .next)) (refuses (refusal 8 1 at))
+-- where the reading of facts stands: the fact before, if there is one, and the next byte
+pub record Stand : Type 0 where
+  pub last : Last
+  pub at : ℕ
+
+-- the next fact, declared and above the one before it: where the reading stands after it. "Refusal 8 is judged when its fact is complete."
+unfoldable pub nextFact : (ℕ → Bool) → List ℕ → Stand → Answer Stand
+nextFact known s here =
+    factAt known s (here .at) then λ f.
+    cond (ascends (here .last) (f .value)) (gives (record { last = after (f .value); at = f .next })) (refuses (refusal 8 1 (here .at)))
+
+-- so many facts from a place on, numbered from 0: the place after them
+abbrev pub factsFrom : (ℕ → Bool) → List ℕ → ℕ → ℕ → Answer ℕ
+factsFrom known s n at = over (λ end. end .at) (itemsFrom (nextFact known s) 0 n (record { last = none; at = at }))
 
 -- so many facts from a place on, as far as they can be read
 unfoldable pub factsIn : List ℕ → ℕ → ℕ → List Fact
@@ -56,7 +64,7 @@ predicateKnown h = predicateDeclared (h .concepts) (h .roles)
 unfoldable pub checkBundle : Head → List ℕ → Answer Facts
 checkBundle h s =
     countAt s 0 mostFacts 1 then λ n.
-    factsFrom (predicateKnown h) s none (n .value) (n .next) then λ end.
+    factsFrom (predicateKnown h) s (n .value) (n .next) then λ end.
     endAt s end 1 then λ _.
     gives (record { count = n .value; start = n .next })
 

@@ -1,4 +1,5 @@
 pub mod Bundle
+pub mod Faults
 pub mod Lawful
 pub mod Opened
 pub mod Told

@@ -2,7 +2,7 @@
 use Prim.Native.Nat.{ℕ}
 use mathlib.Core.Path.{_≡_}
 use mathlib.Core.List.{List}
-use Rattle.number.specs.Answer.{Answer, refusal, _then_}
+use Rattle.number.specs.Answer.{Answer, noRefusal, _then_}
 use Rattle.number.specs.Answer.Answer.{gives, refuses}
 use Rattle.number.specs.declared.refusal.Refusal.{Refusal}
 use Rattle.rules.specs.RuleFile.{checkRules}
@@ -29,5 +29,5 @@ openedTold (NotReady r) = refuses r
 
 -- the refusal in it; there is none in files that were read
 abbrev pub openedRefusal : Opened → Refusal
-openedRefusal (Ready i) = refusal 0 0 0
+openedRefusal (Ready i) = noRefusal
 openedRefusal (NotReady r) = r

@@ -1,15 +1,15 @@
--- What each case of the code's answers says, in document 01's number and values; and what one step of the reading comes to.
+-- What each case of the code's answers says, in document 01's number and values.
 use Prim.Native.Nat.{ℕ}
 use mathlib.Core.Bool.{Bool, true, false, cond}
 use mathlib.Core.List.{List}
 use lib.Dec.{ltb}
-use Rattle.number.specs.Answer.{Answer, Read, refusal, _then_}
+use Rattle.number.specs.Answer.{Answer, Read, noRefusal, _then_}
 use Rattle.number.specs.Answer.Answer.{gives, refuses}
 use Rattle.number.specs.Number.{numberAt}
 use Rattle.number.specs.declared.refusal.Refusal.{Refusal}
 use Rattle.site.specs.declared.fact.Fact.{Fact}
 use Rattle.site.specs.Limits.{mostThing}
-use Rattle.bundle.specs.Bundle.{Last, factAt, ascends}
+use Rattle.bundle.specs.Bundle.{Last, Stand}
 use Rattle.bundle.specs.Bundle.Last.{none, after}
 use Rattle.bundle.specs.declared.before.Before.{Before}
 use Rattle.bundle.specs.declared.facts.Facts.{Facts}
@@ -28,17 +28,33 @@ factTold (RefusedFact r) = refuses r
 
 -- the refusal in it; there is none in a fact
 abbrev pub factRefusal : FactRead → Refusal
-factRefusal (ReadFact fact next) = refusal 0 0 0
+factRefusal (ReadFact fact next) = noRefusal
 factRefusal (RefusedFact r) = r
 
--- a step: where the walk goes on, or the refusal
-abbrev pub stepTold : Step → Answer Walk
-stepTold (On walk) = gives walk
+-- the fact before, as the code holds it
+unfoldable pub lastOf : Before → Last
+lastOf b = cond (b .any) (after (b .last)) none
+
+-- no fact before
+abbrev pub beforeFirst : Before
+beforeFirst = record { last = record { predicate = 0; subject = 0; object = 0 }; any = false }
+
+-- a fact before
+abbrev pub afterFact : Fact → Before
+afterFact f = record { last = f; any = true }
+
+-- where a walk stands
+abbrev pub standOf : Walk → Stand
+standOf w = record { last = lastOf (w .before); at = w .at }
+
+-- a step: where the walk stands after it, or the refusal
+abbrev pub stepTold : Step → Answer Stand
+stepTold (On walk) = gives (standOf walk)
 stepTold (RefusedStep r) = refuses r
 
 -- the refusal in it; there is none in a walk that goes on
 abbrev pub stepRefusal : Step → Refusal
-stepRefusal (On walk) = refusal 0 0 0
+stepRefusal (On walk) = noRefusal
 stepRefusal (RefusedStep r) = r
 
 -- a bundle: its head, or the refusal
@@ -54,21 +70,3 @@ factRest s predicate at =
     (gives (record { value = record { predicate = predicate; subject = a .value; object = 0 }; next = a .next }))
     (numberAt s (a .next) mostThing 1 then λ b.
     gives (record { value = record { predicate = predicate; subject = a .value; object = b .value }; next = b .next }))
-
--- the fact before, as the code holds it
-unfoldable pub lastOf : Before → Last
-lastOf b = cond (b .any) (after (b .last)) none
-
--- no fact before
-abbrev pub beforeFirst : Before
-beforeFirst = record { last = record { predicate = 0; subject = 0; object = 0 }; any = false }
-
--- a fact before
-abbrev pub afterFact : Fact → Before
-afterFact f = record { last = f; any = true }
-
--- one fact of the walk, judged: the walk after it
-unfoldable pub stepFrom : (ℕ → Bool) → List ℕ → Walk → Answer Walk
-stepFrom known s w =
-    factAt known s (w .at) then λ f.
-    cond (ascends (lastOf (w .before)) (f .value)) (gives (record { at = f .next; before = afterFact (f .value) })) (refuses (refusal 8 1 (w .at)))

@@ -9,8 +9,8 @@ use number::Refusal;
 use rules::Head;
 use site::End;
 use site::Fact;
-use site::read_count;
 use site::read_end;
+use site::read_within;
 
 // What reading a bundle finds: its head, or the refusal.
 pub enum BundleRead {
@@ -21,7 +21,7 @@ pub enum BundleRead {
 pub fn check_bundle(s: &[u8], head: Head) -> BundleRead
     ensures { λ r. ⌜ bundleTold r ≡ checkBundle head (now (s .entry)) ⌝ }
 {
-    let counted = read_count(s, 0, Fact::MOST as u32, Refusal::BUNDLE);
+    let counted = read_within(s, 0, Fact::MOST as u32, Refusal::COUNT, Refusal::BUNDLE);
     let Num::Value(count, start) = counted else {
         return BundleRead::Refused(counted.refusal());
     };

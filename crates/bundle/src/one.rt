@@ -63,6 +63,7 @@ pub fn fact_at(s: &[u8], concepts: u32, roles: u32, at: usize) -> FactRead
         number: Refusal::UNKNOWN,
         side: Refusal::BUNDLE,
         place: at,
+        item: Refusal::NO_ITEM,
     })
 }
 

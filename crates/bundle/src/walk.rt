@@ -1,9 +1,8 @@
 // Walking through a bundle's facts, each declared and above the one before it.
 ghost use mathlib.Core.Path.{_≡_};
 ghost use Rattle.site.specs.Told.{endTold};
-ghost use Rattle.bundle.specs.Bundle.{factsFrom, predicateKnown};
-ghost use Rattle.bundle.specs.Bundle.Last.{none};
-ghost use Rattle.bundle.specs.Told.{stepTold, stepRefusal, stepFrom};
+ghost use Rattle.bundle.specs.Bundle.{nextFact, factsFrom, predicateKnown};
+ghost use Rattle.bundle.specs.Told.{stepTold, stepRefusal, standOf};
 use crate::before::Before;
 use crate::one::FactRead;
 use crate::one::fact_at;
@@ -38,7 +37,7 @@ impl Step {
 impl Walk {
     // The fact at the walk's place is read, then judged by its order.
     pub fn step(self, s: &[u8], head: Head) -> Step
-        ensures { λ r. ⌜ stepTold r ≡ stepFrom (predicateKnown head) (now (s .entry)) self ⌝ }
+        ensures { λ r. ⌜ stepTold r ≡ nextFact (predicateKnown head) (now (s .entry)) (standOf self) ⌝ }
     {
         let got = fact_at(s, head.concepts, head.roles, self.at);
         let FactRead::Read(fact, next) = got else {
@@ -55,13 +54,14 @@ impl Walk {
             number: Refusal::ORDER,
             side: Refusal::BUNDLE,
             place: self.at,
+            item: Refusal::NO_ITEM,
         })
     }
 }
 
 // So many facts from a place on: the place after them.
 pub fn walk_facts(s: &[u8], head: Head, count: u32, start: usize) -> End
-    ensures { λ r. ⌜ endTold r ≡ factsFrom (predicateKnown head) (now (s .entry)) none count start ⌝ }
+    ensures { λ r. ⌜ endTold r ≡ factsFrom (predicateKnown head) (now (s .entry)) count start ⌝ }
 {
     let mut walk = Walk {
         at: start,
@@ -71,7 +71,7 @@ pub fn walk_facts(s: &[u8], head: Head, count: u32, start: usize) -> End
     while 0 < left {
         let got = walk.step(s, head);
         let Step::On(next) = got else {
-            return End::Refused(got.refusal());
+            return End::Refused(got.refusal().of_item(count - left));
         };
         walk = next;
         left -= 1;

@@ -3,15 +3,15 @@
 use Prim.Native.Nat.{ℕ}
 use mathlib.Core.Path.{_≡_, refl}
 use mathlib.Core.List.{List, [], _∷_, map}
-use Rattle.number.specs.Answer.{Answer, Read, refusal, over}
+use Rattle.number.specs.Answer.{Answer, Read, refusal, over, about}
 use Rattle.number.specs.Answer.Answer.{gives, refuses}
 use Rattle.number.specs.Number.{formOf, second, third, numberAt, bytesOf}
 use Rattle.site.specs.Codes.{roleOf, conceptOf, conceptDeclared, predicateDeclared}
 use Rattle.site.specs.Limits.{mostFacts, mostNumber, noPartner}
 use Rattle.site.specs.Lists.{upTo, any, count, keep, first, each}
-use Rattle.site.specs.Items.{countAt, codeAt, endAt}
-use Rattle.rules.specs.RuleFile.{headOf, codeDeclared, ruleAt, rulesFrom, rulesIn, unbroken, afterRules, checkRules, siteOf}
-use Rattle.bundle.specs.Bundle.{factAt, factsFrom, factsIn, checkBundle, readBundle, factBytes, bundleOf}
+use Rattle.site.specs.Items.{testedAt, atMost, itemsFrom, endAt}
+use Rattle.rules.specs.RuleFile.{headOf, codeDeclared, ruleAt, nextRule, rulesIn, nextUnbroken, afterRules, checkRules, siteOf}
+use Rattle.bundle.specs.Bundle.{factAt, nextFact, factsIn, checkBundle, readBundle, factBytes, bundleOf}
 use Rattle.writer.specs.Records.{roomFor}
 use Rattle.steps.specs.Tables.{rolesOf, nodesOf, arrow, mates, find, rowsOf, looked, through, closure, apart, empty, excludes, functionalIn, excludedRows, followsFrom, followsOf}
 use Rattle.clashes.specs.Types.{typesOf}
@@ -63,8 +63,12 @@ expected (asked-from r f q a b e) = reply e
 abbrev value : ℕ → ℕ → Answer (Read ℕ)
 value v next = gives (record { value = v; next = next })
 
+-- refused about no item, and about one
 abbrev refused : {A : Type 0} → ℕ → ℕ → ℕ → Answer A
 refused n side place = refuses (refusal n side place)
+
+abbrev refusedIn : {A : Type 0} → ℕ → ℕ → ℕ → ℕ → Answer A
+refusedIn item n side place = about item (refused n side place)
 
 -- "Rule file R", "Bundle F"
 abbrev pub R : List ℕ
@@ -109,10 +113,10 @@ cases =
     -- refusals: no bytes, a count over its limit (`80 20` begins 4,096 facts, the first of them missing), a functional role, the order
     ∷ marked-so R [] (refused 1 1 0)
     ∷ marked-so R (0x00 ∷ []) (gives [])
-    ∷ marked-so R (0x80 ∷ 0x20 ∷ []) (refused 1 1 2)
+    ∷ marked-so R (0x80 ∷ 0x20 ∷ []) (refusedIn 0 1 1 2)
     ∷ marked-so R (0x81 ∷ 0x20 ∷ []) (refused 4 1 0)
-    ∷ marked-so (0x00 ∷ 0x01 ∷ 0x02 ∷ 0x04 ∷ 0x00 ∷ 0x02 ∷ 0x01 ∷ 0x01 ∷ []) (0x00 ∷ []) (refused 6 0 3)
-    ∷ marked-so R (0x02 ∷ 0x00 ∷ 0x07 ∷ 0x00 ∷ 0x07 ∷ []) (refused 8 1 3)
+    ∷ marked-so (0x00 ∷ 0x01 ∷ 0x02 ∷ 0x04 ∷ 0x00 ∷ 0x02 ∷ 0x01 ∷ 0x01 ∷ []) (0x00 ∷ []) (refusedIn 0 6 0 3)
+    ∷ marked-so R (0x02 ∷ 0x00 ∷ 0x07 ∷ 0x00 ∷ 0x07 ∷ []) (refusedIn 1 8 1 3)
     -- "Marking a fact disputed because of a fact that is alone": Camera(12) beside uplink(12,12)
     ∷ marked-so R (0x02 ∷ 0x01 ∷ 0x0C ∷ 0x40 ∷ 0x0C ∷ 0x0C ∷ []) (gives (0 ∷ 1 ∷ []))
     -- "a role nobody can have does not empty the concepts that demand it": Camera(9) is alone, and tells of no partner
@@ -135,5 +139,5 @@ cases =
     ∷ []
 
 pub cases-hold : map defined cases ≡ map expected cases
-unfolding cases formOf second third numberAt bytesOf roleOf conceptOf conceptDeclared predicateDeclared upTo any count keep first each countAt codeAt endAt headOf codeDeclared ruleAt rulesFrom rulesIn unbroken afterRules checkRules siteOf factAt factsFrom factsIn checkBundle readBundle factBytes bundleOf roomFor rolesOf nodesOf arrow mates find rowsOf looked through closure apart empty excludes functionalIn excludedRows followsFrom followsOf typesOf jar split meet alone contradict clash mark partner marks partners marked counts kept supports support given roomForMarks marking counting replyOf having joining keeping
+unfolding cases formOf second third numberAt bytesOf roleOf conceptOf conceptDeclared predicateDeclared upTo any count keep first each testedAt atMost itemsFrom endAt headOf codeDeclared ruleAt nextRule rulesIn nextUnbroken afterRules checkRules siteOf factAt nextFact factsIn checkBundle readBundle factBytes bundleOf roomFor rolesOf nodesOf arrow mates find rowsOf looked through closure apart empty excludes functionalIn excludedRows followsFrom followsOf typesOf jar split meet alone contradict clash mark partner marks partners marked counts kept supports support given roomForMarks marking counting replyOf having joining keeping
 cases-hold = refl

@@ -20,9 +20,9 @@ use Rattle.site.specs.Kinds.Rule.{included, disjoint, roleIncluded, roleDisjoin
 use Rattle.site.specs.Codes.{roleOf, conceptOf, conceptDeclared, predicateDeclared}
 use Rattle.site.specs.Limits.{mostFacts, noPartner}
 use Rattle.site.specs.Lists.{upTo, any, count, first, each}
-use Rattle.site.specs.Items.{countAt, codeAt, endAt}
-use Rattle.rules.specs.RuleFile.{headOf, codeDeclared, ruleAt, rulesFrom, rulesIn, unbroken, afterRules, checkRules, siteOf}
-use Rattle.bundle.specs.Bundle.{factAt, factsFrom, factsIn, checkBundle, readBundle}
+use Rattle.site.specs.Items.{testedAt, atMost, itemsFrom, endAt}
+use Rattle.rules.specs.RuleFile.{headOf, codeDeclared, ruleAt, nextRule, rulesIn, nextUnbroken, afterRules, checkRules, siteOf}
+use Rattle.bundle.specs.Bundle.{factAt, nextFact, factsIn, checkBundle, readBundle}
 use Rattle.steps.specs.Steps.{Included, Excluded}
 use Rattle.steps.specs.Steps.SaysIncluded.{kind-0, kind-2}
 use Rattle.steps.specs.Steps.SaysExcluded.{kind-1, kind-3}
@@ -110,7 +110,7 @@ record Right : Type 0 where
   past-count : asking within both 3 ≡ refuses (refusal 10 2 0)
 
 right : Right
-unfolding formOf second third numberAt roleOf conceptOf conceptDeclared predicateDeclared upTo any count first each countAt codeAt endAt headOf codeDeclared ruleAt rulesFrom rulesIn unbroken afterRules checkRules siteOf factAt factsFrom factsIn checkBundle readBundle rolesOf nodesOf arrow mates find rowsOf looked through closure apart empty excludes functionalIn excludedRows followsFrom followsOf typesOf jar split meet alone contradict clash mark partner marks partners marked counts supports support given roomForMarks marking asking replyOf having joining
+unfolding formOf second third numberAt roleOf conceptOf conceptDeclared predicateDeclared upTo any count first each testedAt atMost itemsFrom endAt headOf codeDeclared ruleAt nextRule rulesIn nextUnbroken afterRules checkRules siteOf factAt nextFact factsIn checkBundle readBundle rolesOf nodesOf arrow mates find rowsOf looked through closure apart empty excludes functionalIn excludedRows followsFrom followsOf typesOf jar split meet alone contradict clash mark partner marks partners marked counts supports support given roomForMarks marking asking replyOf having joining
 right =
     record {
       functional-forward = refl;

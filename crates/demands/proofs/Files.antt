@@ -8,14 +8,17 @@ use lib.ListN.{length}
 use Rattle.number.specs.Answer.{Answer, _then_, over}
 use Rattle.number.specs.Answer.Answer.{gives, refuses}
 use Rattle.number.specs.declared.refusal.Refusal.{Refusal}
-use Rattle.number.proofs.Answers.{never, same-refused}
+use Rattle.number.proofs.Answers.{Halts, halts, never, same-refused}
+use Rattle.number.proofs.Answers.Halts.{at-first, at-rest}
 use Rattle.site.specs.declared.fact.Fact.{Fact}
 use Rattle.rules.specs.RuleFile.{checkRules, siteOf}
 use Rattle.rules.specs.declared.head.Head.{Head}
+use Rattle.rules.proofs.OfFaults.{rules-fault}
 use Rattle.bundle.specs.Bundle.{factsOf, checkBundle, readBundle}
 use Rattle.bundle.specs.Opened.{opening}
 use Rattle.bundle.specs.declared.facts.Facts.{Facts}
 use Rattle.bundle.specs.declared.open.Inputs.{Inputs}
+use Rattle.bundle.proofs.OfFaults.{bundle-fault}
 use Rattle.bundle.proofs.OfOpened.{opening-accepted}
 use Rattle.records.specs.Reading.{readerStart}
 use Rattle.records.specs.Rows.{handOut, handRecords}
@@ -29,7 +32,7 @@ use Rattle.shown.specs.declared.shapes.DzyAsked.{DzyAsked}
 use Rattle.shown.specs.declared.shapes.DzyAnswer.{DzyAnswer}
 use Rattle.shown.specs.declared.shapes.DzyLength.{DzyLength}
 use Rattle.shown.specs.declared.shapes.DzyStart.{DzyStart}
-use Rattle.demands.specs.Demands.{RefusesFiles, ReadOrRefused}
+use Rattle.demands.specs.Demands.{RefusesFiles, ReadOrRefused, ItemThere}
 
 module _ (rules bundle : List ℕ) (q : Refusal) (e : opening rules bundle ≡ refuses q) where
   -- whatever is asked of the files, their refusal is the answer
@@ -71,6 +74,19 @@ module _ (rules bundle : List ℕ) (q : Refusal) (e : opening rules bundle ≡ r
         reader-start = λ r p. ap (λ (x : DzyStart). x .refused) (p ∙ ap shownStart start-refused);
       }
 
+-- the refusal is about the item there
+item-there : (rules bundle : List ℕ) (q : Refusal) → opening rules bundle ≡ refuses q → ItemThere rules bundle q
+unfolding opening
+item-there rules bundle q e = of-files (halts (checkRules rules) _ q e)
+  where
+    of-bundle : (h : Head) → checkRules rules ≡ gives h → Halts {B = Inputs} (checkBundle h bundle) (λ b. gives (record { head = h; facts = b })) q → ItemThere rules bundle q
+    of-bundle h accepted (at-first f) = inr (h, accepted, bundle-fault h bundle q f)
+    of-bundle h accepted (at-rest b f g) = absurd (never (sym g))
+
+    of-files : Halts {B = Inputs} (checkRules rules) (λ h. checkBundle h bundle then λ b. gives (record { head = h; facts = b })) q → ItemThere rules bundle q
+    of-files (at-first f) = inl (rules-fault rules q f)
+    of-files (at-rest h f g) = of-bundle h f (halts (checkBundle h bundle) _ q g)
+
 pub read-or-refused : (rules bundle : List ℕ) → ReadOrRefused rules bundle
 unfolding readBundle
 read-or-refused rules bundle = go (opening rules bundle) refl
@@ -79,4 +95,4 @@ read-or-refused rules bundle = go (opening rules bundle) refl
     go (gives i) e =
         let a = opening-accepted rules bundle i e in
         inl (record { head = i .head; facts = factsOf bundle (i .facts); rules-read = a .of-rules; bundle-read = ap (over (factsOf bundle)) (a .of-bundle) })
-    go (refuses q) e = inr (q, e, refuses-files rules bundle q e)
+    go (refuses q) e = inr (q, e, refuses-files rules bundle q e, item-there rules bundle q e)

@@ -11,7 +11,7 @@ use Rattle.number.specs.Answer.Answer.{gives, refuses}
 use Rattle.number.specs.Number.{numberAt}
 use Rattle.number.specs.declared.refusal.Refusal.{Refusal}
 use Rattle.number.proofs.Answers.{went, given-once, over-given}
-use Rattle.site.specs.Items.{countAt}
+use Rattle.site.specs.Items.{countAt, testedAt, atMost}
 use Rattle.site.specs.Limits.{mostConcepts, mostRoles, mostRules, mostFacts, mostNumber}
 use Rattle.site.proofs.There.{count-there}
 use Rattle.rules.specs.RuleFile.{headOf, checkRules}
@@ -34,7 +34,7 @@ use Rattle.shown.specs.declared.shapes.DzyLength.{DzyLength}
 use Rattle.shown.specs.declared.shapes.DzyYield.{DzyYield}
 use Rattle.dzyunagor.specs.Promises.{CheckBundle, Mark, WriteKept, Records, WriteRecords, ReaderNext}
 use Rattle.promises.proofs.OneAnswer.{one-check-rules, one-check-bundle, one-mark, one-count, one-ask, one-has, one-joins, one-write-kept, one-records, one-write-records, one-reader-start, one-reader-next}
-use Rattle.promises.proofs.NeverZero.{check-bundle-tells, mark-tells, write-kept-tells, records-tells, write-records-tells, reader-next-tells}
+use Rattle.promises.proofs.NeverZero.{check-bundle-tells, mark-tells, write-kept-tells, records-tells, write-records-tells, reader-next-tells, refusalShown}
 use Rattle.demands.specs.Demands.{Done, Refused, BothRead, OneAnswer, WritesNothing, OverLimits}
 
 pub one-answer : (rules bundle : List ℕ) → OneAnswer rules bundle
@@ -68,7 +68,7 @@ module _ (rules bundle : List ℕ) where
       let a : Answer Marked = marking rules bundle (length marks) (length partners) in
       let x = r .refused in
       let stopped = mark-tells rules bundle marks partners marks′ partners′ r p .refused low in
-      (p .marks ∙ nothing-laid a (refusal (x .number) (x .side) (x .place)) stopped (λ m. m .marks) marks, p .partners ∙ nothing-laid a (refusal (x .number) (x .side) (x .place)) stopped (λ m. m .partners) partners)
+      (p .marks ∙ nothing-laid a (refusalShown x) stopped (λ m. m .marks) marks, p .partners ∙ nothing-laid a (refusalShown x) stopped (λ m. m .partners) partners)
 
   kept-writes : (out out′ : List ℕ) (r : DzyLength) → WriteKept rules bundle out r out′ → Refused (r .refused) → out′ ≡ out
   kept-writes out out′ r p low = p .memory ∙ no-bytes (keeping rules bundle (length out)) _ out (write-kept-tells rules bundle out out′ r p .refused low)
@@ -98,7 +98,7 @@ writes-nothing rules bundle =
 -- ---- a bundle over a limit
 module _ (rules bundle : List ℕ) where
   stopped-at-count : (h : Head) (n : Read ℕ) → checkRules rules ≡ gives h → numberAt bundle 0 mostNumber 1 ≡ gives n → mostFacts < n .value → opening rules bundle ≡ refuses (refusal 4 1 0)
-  unfolding opening checkBundle countAt
+  unfolding opening checkBundle testedAt atMost
   stopped-at-count h n accepted counted over = rw (accepted, counted, lt-leb (n .value) mostFacts over)
 
   too-many : (h : Head) (n : Read ℕ) (r : DzyLength) → checkRules rules ≡ gives h → numberAt bundle 0 mostNumber 1 ≡ gives n → mostFacts < n .value

@@ -16,9 +16,11 @@ use Rattle.site.specs.Kinds.{Site}
 use Rattle.site.specs.Kinds.Node.{concept, role}
 use Rattle.site.specs.Limits.{mostConcepts, mostRoles, mostRules, mostFacts, mostNumber, mostThing}
 use Rattle.site.specs.declared.fact.Fact.{Fact}
+use Rattle.rules.specs.Faults.{RulesFault}
 use Rattle.rules.specs.RuleFile.{checkRules, siteOf}
 use Rattle.rules.specs.declared.head.Head.{Head}
 use Rattle.bundle.specs.Bundle.{readBundle, bundleOf}
+use Rattle.bundle.specs.Faults.{BundleFault}
 use Rattle.bundle.specs.Lawful.{LawfulFacts}
 use Rattle.bundle.specs.Opened.{opening}
 use Rattle.records.specs.Reading.Found.{fact, done}
@@ -104,9 +106,14 @@ module _ (rules bundle : List ℕ) where
     pub records : (row row′ : List Record) (r : DzyLength) → Records rules bundle row r row′ → r .refused ≡ refused q
     pub reader-start : (r : DzyStart) → ReaderStart rules bundle r → r .refused ≡ refused q
 
-  -- both files are read, or there is one refusal of them
+  -- "Demand 1 reads with the longer answer": a refusal of files is about "the number of the item there (rule or fact; 65,535 in the header and after
+  -- the last item)"
+  abbrev pub ItemThere : Refusal → Type 0
+  ItemThere q = RulesFault rules q ⊎ ((h : Head) × (checkRules rules ≡ gives h) × BundleFault h bundle q)
+
+  -- both files are read, or there is one refusal of them, about the item there
   abbrev pub ReadOrRefused : Type 0
-  ReadOrRefused = BothRead rules bundle ⊎ ((q : Refusal) × (opening rules bundle ≡ refuses q) × RefusesFiles q)
+  ReadOrRefused = BothRead rules bundle ⊎ ((q : Refusal) × (opening rules bundle ≡ refuses q) × RefusesFiles q × ItemThere q)
 
   -- "A bundle over a limit is refused and never shortened. Reason: support has to know that it holds all of it."
   pub record OverLimits : Type 0 where
@@ -120,7 +127,7 @@ module _ (rules bundle : List ℕ) where
     pub read : (r : DzyLength) → CheckBundle rules bundle r → Done (r .refused) → BothRead rules bundle
     pub counted : (a : BothRead rules bundle) (r : DzyLength) → CheckBundle rules bundle r → r ≡ shownLength (gives (length (a .facts)))
 
--- refused by this number, for the call's own arguments or for room: side 2, place 0
+-- refused by this number, for the call's own arguments or for room: side 2, place 0, about no item
 abbrev pub By : ℕ → DzyRefusal → Type 0
 By number x = x ≡ refused (refusal number 2 0)
 

@@ -9,9 +9,9 @@ use Rattle.number.specs.declared.refusal.Refusal.{Refusal}
 use Rattle.site.specs.Codes.{roleOf, conceptOf, conceptDeclared, predicateDeclared}
 use Rattle.site.specs.Limits.{noPartner}
 use Rattle.site.specs.Lists.{upTo, any, count, first, each}
-use Rattle.site.specs.Items.{countAt, codeAt, endAt}
-use Rattle.rules.specs.RuleFile.{headOf, codeDeclared, ruleAt, rulesFrom, rulesIn, unbroken, afterRules, checkRules, siteOf}
-use Rattle.bundle.specs.Bundle.{factAt, factsFrom, factsIn, checkBundle, readBundle}
+use Rattle.site.specs.Items.{testedAt, atMost, itemsFrom, endAt}
+use Rattle.rules.specs.RuleFile.{headOf, codeDeclared, ruleAt, nextRule, rulesIn, nextUnbroken, afterRules, checkRules, siteOf}
+use Rattle.bundle.specs.Bundle.{factAt, nextFact, factsIn, checkBundle, readBundle}
 use Rattle.steps.specs.Tables.{rolesOf, nodesOf, arrow, mates, find, rowsOf, looked, through, closure, apart, empty, excludes, functionalIn, excludedRows, followsFrom, followsOf}
 use Rattle.clashes.specs.Types.{typesOf}
 use Rattle.clashes.specs.Marks.{jar, split, meet, alone, contradict, clash, mark, partner, marks, partners, marked, counts}
@@ -79,6 +79,8 @@ cases =
     -- `refused 1 in rules at 0`, `refused 1 in bundle at 0`
     ∷ whole [] [] (114 ∷ 101 ∷ 102 ∷ 117 ∷ 115 ∷ 101 ∷ 100 ∷ 32 ∷ 49 ∷ 32 ∷ 105 ∷ 110 ∷ 32 ∷ 114 ∷ 117 ∷ 108 ∷ 101 ∷ 115 ∷ 32 ∷ 97 ∷ 116 ∷ 32 ∷ 48 ∷ 10 ∷ [])
     ∷ whole R [] (114 ∷ 101 ∷ 102 ∷ 117 ∷ 115 ∷ 101 ∷ 100 ∷ 32 ∷ 49 ∷ 32 ∷ 105 ∷ 110 ∷ 32 ∷ 98 ∷ 117 ∷ 110 ∷ 100 ∷ 108 ∷ 101 ∷ 32 ∷ 97 ∷ 116 ∷ 32 ∷ 48 ∷ 10 ∷ [])
+    -- `refused 11 in rules at 3`: the item is not printed
+    ∷ whole (0x00 ∷ 0x00 ∷ 0x01 ∷ 0x05 ∷ []) [] (114 ∷ 101 ∷ 102 ∷ 117 ∷ 115 ∷ 101 ∷ 100 ∷ 32 ∷ 49 ∷ 49 ∷ 32 ∷ 105 ∷ 110 ∷ 32 ∷ 114 ∷ 117 ∷ 108 ∷ 101 ∷ 115 ∷ 32 ∷ 97 ∷ 116 ∷ 32 ∷ 51 ∷ 10 ∷ [])
     -- `facts 0 kept 0 alone 0 disputed 0`
     ∷ whole R (0x00 ∷ []) (102 ∷ 97 ∷ 99 ∷ 116 ∷ 115 ∷ 32 ∷ 48 ∷ 32 ∷ 107 ∷ 101 ∷ 112 ∷ 116 ∷ 32 ∷ 48 ∷ 32 ∷ 97 ∷ 108 ∷ 111 ∷ 110 ∷ 101 ∷ 32 ∷ 48 ∷ 32 ∷ 100 ∷ 105 ∷ 115 ∷ 112 ∷ 117 ∷ 116 ∷ 101 ∷ 100 ∷ 32 ∷ 48 ∷ 10 ∷ [])
     -- `facts 4096 kept 90 alone 1005 disputed 3001`
@@ -92,5 +94,5 @@ cases =
     ∷ []
 
 pub cases-hold : map defined cases ≡ map printed cases
-unfolding cases digitsOf decimalOf named countsLine markOf factLine placeOf refusalLine lineAt linesFrom listingOf formOf second third numberAt roleOf conceptOf conceptDeclared predicateDeclared upTo any count first each countAt codeAt endAt headOf codeDeclared ruleAt rulesFrom rulesIn unbroken afterRules checkRules siteOf factAt factsFrom factsIn checkBundle readBundle rolesOf nodesOf arrow mates find rowsOf looked through closure apart empty excludes functionalIn excludedRows followsFrom followsOf typesOf jar split meet alone contradict clash mark partner marks partners marked counts given roomForMarks marking
+unfolding cases digitsOf decimalOf named countsLine markOf factLine placeOf refusalLine lineAt linesFrom listingOf formOf second third numberAt roleOf conceptOf conceptDeclared predicateDeclared upTo any count first each testedAt atMost itemsFrom endAt headOf codeDeclared ruleAt nextRule rulesIn nextUnbroken afterRules checkRules siteOf factAt nextFact factsIn checkBundle readBundle rolesOf nodesOf arrow mates find rowsOf looked through closure apart empty excludes functionalIn excludedRows followsFrom followsOf typesOf jar split meet alone contradict clash mark partner marks partners marked counts given roomForMarks marking
 cases-hold = refl

@@ -1,9 +1,9 @@
 -- What an accepted answer says of the answers that it is made of, and what holds of all that an answer gives. A refusal's laws are in `Refusing`.
-use mathlib.Core.Path.{_≡_, refl}
+use mathlib.Core.Path.{_≡_, refl, sym, ap}
 use mathlib.Core.Bool.{Bool, true, false, cond}
 use native.Mathlib.Omega.{arith}
 use Prim.Native.Nat.{ℕ}
-use Rattle.number.specs.Answer.{Answer, _then_, over}
+use Rattle.number.specs.Answer.{Answer, _then_, over, about}
 use Rattle.number.specs.Answer.Answer.{gives, refuses}
 use Rattle.number.specs.declared.refusal.Refusal.{Refusal}
 
@@ -16,6 +16,11 @@ given-once e = cc
 pub same-refused : {A : Type 0} {q r : Refusal} → _≡_ {A = Answer A} (refuses q) (refuses r) → q ≡ r
 same-refused e = cc
 
+-- what is given about an item is given as it is
+pub about-given : {A : Type 0} (k : ℕ) (a : Answer A) {x : A} → about k a ≡ gives x → a ≡ gives x
+about-given k (gives v) e = e
+about-given k (refuses r) e = absurd (never e)
+
 module _ {A : Type 0} where
   -- what went on was given
   pub record Went {B : Type 0} (a : Answer A) (k : A → Answer B) (x : B) : Type 0 where
@@ -26,6 +31,15 @@ module _ {A : Type 0} where
   pub went : {B : Type 0} (a : Answer A) (k : A → Answer B) {x : B} → (a then k) ≡ gives x → Went a k x
   went (gives v) k e = record { value = v; first = refl; rest = e }
   went (refuses r) k e = absurd (never e)
+
+  -- what did not go on was refused, first or after
+  pub data Halts {B : Type 0} (a : Answer A) (k : A → Answer B) (r : Refusal) : Type 0 where
+    at-first : a ≡ refuses r → Halts a k r
+    at-rest : (value : A) → a ≡ gives value → k value ≡ refuses r → Halts a k r
+
+  pub halts : {B : Type 0} (a : Answer A) (k : A → Answer B) (r : Refusal) → (a then k) ≡ refuses r → Halts a k r
+  halts (gives v) k r e = at-rest v refl e
+  halts (refuses q) k r e = at-first (ap refuses (same-refused e))
 
   -- a test that went on passed
   pub record Passed (b : Bool) (a : Answer A) (x : A) : Type 0 where
@@ -53,6 +67,10 @@ module _ {A : Type 0} where
   pub over-given : {B : Type 0} (f : A → B) (a : Answer A) {y : B} → over f a ≡ gives y → Over f a y
   over-given f (gives v) e = record { value = v; given = refl; told = given-once e }
   over-given f (refuses r) e = absurd (never e)
+
+  pub over-refused : {B : Type 0} (f : A → B) (a : Answer A) {r : Refusal} → over f a ≡ refuses r → a ≡ refuses r
+  over-refused f (gives v) e = absurd (never (sym e))
+  over-refused f (refuses q) e = ap refuses (same-refused e)
 
   -- what holds of all that an answer gives
   module _ (P : A → Type 0) where

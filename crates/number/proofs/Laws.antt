@@ -8,7 +8,7 @@ use lib.Seq.{drop-append-seam, drop-drop, getD-drop, take-at, take-nil, take-tak
 use lib.Dec.{ltb, leb, eqb}
 use native.Mathlib.Omega.{arith}
 use borrow.Author.Tests.{lt-ltb, le-ltb, le-leb, ne-eqb, ltb-true, ltb-false, leb-true, eqb-false}
-use Rattle.number.specs.Answer.{Answer, Read, refusal}
+use Rattle.number.specs.Answer.{Answer, Read, refusal, noItem}
 use Rattle.number.specs.Answer.Answer.{gives, refuses}
 use Rattle.number.specs.Number.{Form, ending, third, second, formOf, judged, judgeAt, numberAt, bytesOf, threeBytes}
 use Rattle.number.specs.Number.Form.{whole, fault}
@@ -251,11 +251,12 @@ pub record RefusedHow (at side : ℕ) (r : Refusal) : Type 0 where
   pub first-byte : r .place ≡ at
   pub low : 1 ≤ r .number
   pub high : r .number ≤ 3
+  pub of-none : r .item ≡ noItem
 
 module _ (at most side : ℕ) (r : Refusal) where
   by-number : (n : ℕ) → 1 ≤ n → n ≤ 3 → _≡_ {A = Answer (Read ℕ)} (refuses (refusal n side at)) (refuses r) → RefusedHow at side r
   by-number n low high e =
-      let how : RefusedHow at side (refusal n side at) = record { side-given = refl; first-byte = refl; low = low; high = high } in
+      let how : RefusedHow at side (refusal n side at) = record { side-given = refl; first-byte = refl; low = low; high = high; of-none = refl } in
       rw (same-refused e) at how
 
   form-refused : {s : List ℕ} (f : Form) → Stands s f → judgeAt at most side f ≡ refuses r → RefusedHow at side r

@@ -8,7 +8,7 @@ use native.Mathlib.Numerals.{add-one}
 use native.Mathlib.Omega.{arith}
 use borrow.Author.Tests.{lt-ltb, le-ltb, le-leb, lt-leb, eq-eqb, ne-eqb}
 use borrow.Author.Needs.{needs}
-use Rattle.number.specs.Answer.{refusal}
+use Rattle.number.specs.Answer.{refusal, noRefusal}
 use Rattle.number.specs.Answer.Answer.{gives}
 use Rattle.number.specs.Number.{ending, third, second, formOf, judged, judgeAt, numberAt}
 use Rattle.number.specs.Told.{told, refusalIn}
@@ -16,7 +16,7 @@ use Rattle.number.specs.declared.read.Num.{Num}
 use Rattle.number.specs.declared.read.Num.the-variants.{Value, Refused}
 
 -- a value has no refusal
-pub no-refusal : (n : Num) (v next : ℕ) → n ≡ Value v next → refusal 0 0 0 ≡ refusalIn n
+pub no-refusal : (n : Num) (v next : ℕ) → n ≡ Value v next → noRefusal ≡ refusalIn n
 no-refusal n v next e = rw e
 
 module _ (v next at most side : ℕ) where

@@ -2,7 +2,8 @@
 -- and put together as the answer is. Every file that says so of its readings takes the laws from here.
 use mathlib.Core.Path.{_≡_, refl, sym, ap}
 use mathlib.Core.Bool.{Bool, true, false, cond}
-use Rattle.number.specs.Answer.{Answer, _then_, over}
+use Prim.Native.Nat.{ℕ}
+use Rattle.number.specs.Answer.{Answer, _then_, over, ofItem, about}
 use Rattle.number.specs.Answer.Answer.{gives, refuses}
 use Rattle.number.specs.declared.refusal.Refusal.{Refusal}
 use Rattle.number.proofs.Answers.{never, same-refused}
@@ -21,6 +22,11 @@ module _ {A : Type 0} (P : Refusal → Type 0) where
   pub refuses-test : (t : Bool) (x y : Answer A) → Refuses P x → Refuses P y → Refuses P (cond t x y)
   refuses-test true x y first other = first
   refuses-test false x y first other = other
+
+  -- a property that does not ask which item it is about
+  pub refuses-about : ((k : ℕ) (r : Refusal) → P r → P (ofItem k r)) → (k : ℕ) (a : Answer A) → Refuses P a → Refuses P (about k a)
+  refuses-about any k (gives x) first = refuses-gives x
+  refuses-about any k (refuses q) first = refuses-so (ofItem k q) (any k q (first q refl))
 
   -- a test that refuses what fails
   pub refuses-tested : (t : Bool) (x : A) (q : Refusal) → P q → Refuses P (cond t (gives x) (refuses q))

@@ -4,7 +4,7 @@ use mathlib.Core.Path.{_≡_}
 use mathlib.Core.List.{List}
 use lib.ListN.{length}
 use lib.Seq.{sets}
-use Rattle.number.specs.Answer.{Answer, Read, refusal, over, laid}
+use Rattle.number.specs.Answer.{Answer, Read, noRefusal, over, laid}
 use Rattle.number.specs.Answer.Answer.{gives, refuses}
 use Rattle.number.specs.Number.{plan, bytesOf, threeBytes}
 use Rattle.number.specs.declared.refusal.Refusal.{Refusal}
@@ -20,7 +20,7 @@ told (Refused r) = refuses r
 
 -- the refusal in an answer; there is none in a value
 abbrev pub refusalIn : Num → Refusal
-refusalIn (Value value next) = refusal 0 0 0
+refusalIn (Value value next) = noRefusal
 refusalIn (Refused r) = r
 
 -- writing: the place after the number, or the refusal

@@ -43,6 +43,7 @@ fn refuse(number: u32, side: u32, place: usize) -> Num
         number,
         side,
         place,
+        item: Refusal::NO_ITEM,
     })
 }
 

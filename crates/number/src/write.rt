@@ -20,6 +20,7 @@ fn refuse(number: u32) -> Wrote
         number,
         side: Refusal::CALL,
         place: 0,
+        item: Refusal::NO_ITEM,
     })
 }
 

@@ -1,5 +1,6 @@
 // Marking a bundle, counting its marks, and asking about one fact.
 ghost use mathlib.Core.Path.{_≡_};
+ghost use Rattle.number.specs.Answer.{refusal};
 ghost use Rattle.bundle.specs.Opened.{Accepted};
 ghost use Rattle.clean.specs.Operations.{counting, asking};
 ghost use Rattle.operations.specs.Promises.{MarksAll, countedTold, askedTold};
@@ -30,7 +31,7 @@ pub enum Asked {
 }
 
 fn no_room() -> Counted
-    ensures { λ r. ⌜ r ≡ Counted.Refused (record { number = 9; side = 2; place = 0 }) ⌝ }
+    ensures { λ r. ⌜ r ≡ Counted.Refused (refusal 9 2 0) ⌝ }
 {
     Counted::Refused(Refusal::NO_ROOM)
 }
@@ -100,6 +101,7 @@ fn ask_accepted(rules: &[u8], head: Head, bundle: &[u8], facts: Facts, number: u
             number: Refusal::NO_FACT,
             side: Refusal::CALL,
             place: 0,
+            item: Refusal::NO_ITEM,
         });
     }
     let mut included = BLANK;

@@ -1,5 +1,6 @@
 // The two simple questions.
 ghost use mathlib.Core.Path.{_≡_};
+ghost use Rattle.number.specs.Answer.{refusal};
 ghost use Rattle.bundle.specs.Opened.{Accepted};
 ghost use Rattle.clean.specs.Operations.{having, joining};
 ghost use Rattle.operations.specs.Promises.{repliedTold, RepliesTo};
@@ -24,12 +25,13 @@ pub enum Replied {
 }
 
 fn refuse(number: u32) -> Replied
-    ensures { λ r. ⌜ r ≡ Replied.Refused (record { number = number; side = 2; place = 0 }) ⌝ }
+    ensures { λ r. ⌜ r ≡ Replied.Refused (refusal number 2 0) ⌝ }
 {
     Replied::Refused(Refusal {
         number,
         side: Refusal::CALL,
         place: 0,
+        item: Refusal::NO_ITEM,
     })
 }
 

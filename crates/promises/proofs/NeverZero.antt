@@ -153,10 +153,14 @@ pub record Gave {A : Type 0} (a : Answer A) : Type 0 where
   pub value : A
   pub is : a ≡ gives value
 
+-- the refusal that C is shown
+abbrev pub refusalShown : DzyRefusal → Refusal
+refusalShown x = record { number = x .number; side = x .side; place = x .place; item = x .item }
+
 -- number 0: the operation did its work; another number: it refused so
 pub record Tells {A : Type 0} (a : Answer A) (x : DzyRefusal) : Type 0 where
   pub given : x .number ≡ 0 → Gave a
-  pub refused : 1 ≤ x .number → a ≡ refuses (refusal (x .number) (x .side) (x .place))
+  pub refused : 1 ≤ x .number → a ≡ refuses (refusalShown x)
 
 -- once for every shape: it shows what was given with number 0, and a refusal as it is
 module _ {A S : Type 0} (part : S → DzyRefusal) (show : Answer A → S) (plain : (x : A) → part (show (gives x)) .number ≡ 0) (as-is : (r : Refusal) → part (show (refuses r)) ≡ refused r) where

@@ -5,7 +5,8 @@ use Prim.Native.Nat.{ℕ, _≤_}
 use mathlib.Core.Path.{_≡_, refl, sym, ap}
 use mathlib.Core.List.{List, [], _∷_}
 use lib.ListN.{length, getD}
-use Rattle.number.specs.Answer.{over, laid}
+use Rattle.number.specs.Answer.Answer.{refuses}
+use Rattle.number.specs.Answer.{over, laid, refusal}
 use Rattle.number.proofs.One.{Same}
 use Rattle.cases.proofs.Cases.{R, F}
 use Rattle.shown.specs.Shown.{notRefused, shownCounts, shownAsked, shownAnswer, shownLength}
@@ -88,7 +89,7 @@ abbrev tooShort : List ℕ
 tooShort = 7 ∷ 7 ∷ 7 ∷ 7 ∷ 7 ∷ []
 
 abbrev noCounts : DzyCounts
-noCounts = record { refused = record { number = 9; side = 2; place = 0 }; facts = 0; kept = 0; alone = 0; disputed = 0 }
+noCounts = shownCounts (refuses (refusal 9 2 0))
 
 pub short-right : Mark R F tooShort lent noCounts tooShort lent
 short-right =
@@ -286,12 +287,12 @@ module _ (r : DzyLength) (out : List ℕ) (p : WriteKept R F three r out) where
 abbrev two : List ℕ
 two = 7 ∷ 7 ∷ []
 
-pub no-room-right : WriteKept R F two (refusedWith 9 2 0) two
+pub no-room-right : WriteKept R F two (refusedWith (refusal 9 2 0)) two
 no-room-right =
     record { answer = sym (ap (λ a. shownLength (over length a)) (worked .not-kept)); memory = sym (ap (laid two 0) (worked .not-kept)) }
 
 module _ (r : DzyLength) (out : List ℕ) (p : WriteKept R F two r out) where
-  pub no-room-is : Same r (refusedWith 9 2 0) out two
+  pub no-room-is : Same r (refusedWith (refusal 9 2 0)) out two
   no-room-is = one-write-kept R F two p no-room-right
 
   -- as many bytes as there is room for are written

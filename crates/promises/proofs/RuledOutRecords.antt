@@ -4,7 +4,8 @@ use mathlib.Core.Path.{_≡_, refl, sym, ap, _∙_}
 use mathlib.Core.List.{List, [], _∷_, _++_}
 use lib.ListN.{length, getD}
 use denote.Ref.{RefT, now}
-use Rattle.number.specs.Answer.{over, laid}
+use Rattle.number.specs.Answer.Answer.{refuses}
+use Rattle.number.specs.Answer.{over, laid, refusal, ofItem, noItem}
 use Rattle.number.proofs.One.{Same}
 use Rattle.records.specs.Reading.{Stepped, readerStep}
 use Rattle.records.specs.declared.record.Record.{Record}
@@ -16,7 +17,7 @@ use Rattle.shown.specs.declared.shapes.DzyStart.{DzyStart}
 use Rattle.shown.specs.declared.shapes.DzyYield.{DzyYield}
 use Rattle.dzyunagor.specs.Promises.{CheckRules, CheckBundle, Records, WriteRecords, ReaderStart, ReaderNext}
 use Rattle.promises.proofs.OneAnswer.{one-check-rules, one-check-bundle, one-records, one-write-records, one-reader-start, one-reader-next, SameStep}
-use Rattle.promises.proofs.WorkedSite.{twice, badRules, rec, six, badRow, worked, long, refusedWith, differ, differ-at, accepted}
+use Rattle.promises.proofs.WorkedSite.{twice, badRules, rec, six, badRow, worked, long, refusedWith, differ, differ-at, accepted, badKind}
 
 -- ---- reading the rules: five
 pub rules-right : CheckRules R (long 5)
@@ -35,13 +36,13 @@ module _ (r : DzyLength) (p : CheckRules R r) where
   pub rules-not-refused : 1 ≤ r .refused .number → ⊥
   rules-not-refused low = accepted (ap (λ l. l .refused .number) rules-is) low
 
--- rules that are refused, with 6 at byte 3
-pub bad-rules-right : CheckRules badRules (refusedWith 6 0 3)
+-- rules that are refused, with 6 at byte 3, the kind of rule 0
+pub bad-rules-right : CheckRules badRules (refusedWith (ofItem 0 (refusal 6 0 3)))
 unfolding CheckRules
 bad-rules-right = sym (ap shownLength (worked .bad-rules))
 
 module _ (r : DzyLength) (p : CheckRules badRules r) where
-  pub bad-rules-is : r ≡ refusedWith 6 0 3
+  pub bad-rules-is : r ≡ refusedWith (ofItem 0 (refusal 6 0 3))
   bad-rules-is = one-check-rules badRules p bad-rules-right
 
   -- they are accepted
@@ -51,6 +52,30 @@ module _ (r : DzyLength) (p : CheckRules badRules r) where
   -- the place is that of the kind 2 rule
   pub bad-rules-not-elsewhere : r .refused .place ≡ 5 → ⊥
   bad-rules-not-elsewhere e = differ (ap (λ l. l .refused .place) bad-rules-is) e refl
+
+  -- the item is the kind 2 rule, or none
+  pub bad-rules-not-the-other : r .refused .item ≡ 1 → ⊥
+  bad-rules-not-the-other e = differ (ap (λ l. l .refused .item) bad-rules-is) e refl
+
+  pub bad-rules-not-of-none : r .refused .item ≡ noItem → ⊥
+  bad-rules-not-of-none e = differ (ap (λ l. l .refused .item) bad-rules-is) e refl
+
+-- a kind that is not known: 11 at it, in rule 0
+pub bad-kind-right : CheckRules badKind (refusedWith (ofItem 0 (refusal 11 0 3)))
+unfolding CheckRules
+bad-kind-right = sym (ap shownLength (worked .bad-kind))
+
+module _ (r : DzyLength) (p : CheckRules badKind r) where
+  pub bad-kind-is : r ≡ refusedWith (ofItem 0 (refusal 11 0 3))
+  bad-kind-is = one-check-rules badKind p bad-kind-right
+
+  -- it is told as what is not declared
+  pub bad-kind-not-undeclared : r .refused .number ≡ 5 → ⊥
+  bad-kind-not-undeclared e = differ (ap (λ l. l .refused .number) bad-kind-is) e refl
+
+  -- the item is the next one
+  pub bad-kind-not-next : r .refused .item ≡ 1 → ⊥
+  bad-kind-not-next e = differ (ap (λ l. l .refused .item) bad-kind-is) e refl
 
 -- ---- reading both files: six facts
 pub bundle-right : CheckBundle R F (long 6)
@@ -70,12 +95,12 @@ module _ (r : DzyLength) (p : CheckBundle R F r) where
   bundle-not-refused low = accepted (ap (λ l. l .refused .number) bundle-is) low
 
 -- a fact twice is refused, with 8 at the second
-pub twice-right : CheckBundle R twice (refusedWith 8 1 3)
+pub twice-right : CheckBundle R twice (refusedWith (ofItem 1 (refusal 8 1 3)))
 unfolding CheckBundle
 twice-right = sym (ap shownLength (worked .bad-facts))
 
 module _ (r : DzyLength) (p : CheckBundle R twice r) where
-  pub twice-is : r ≡ refusedWith 8 1 3
+  pub twice-is : r ≡ refusedWith (ofItem 1 (refusal 8 1 3))
   twice-is = one-check-bundle R twice p twice-right
 
   -- it is accepted
@@ -85,6 +110,29 @@ module _ (r : DzyLength) (p : CheckBundle R twice r) where
   -- the place is that of the first of the two
   pub twice-not-at-first : r .refused .place ≡ 1 → ⊥
   twice-not-at-first e = differ (ap (λ l. l .refused .place) twice-is) e refl
+
+  -- the item is the first of the two, the next one, or none
+  pub twice-not-first : r .refused .item ≡ 0 → ⊥
+  twice-not-first e = differ (ap (λ l. l .refused .item) twice-is) e refl
+
+  pub twice-not-next : r .refused .item ≡ 2 → ⊥
+  twice-not-next e = differ (ap (λ l. l .refused .item) twice-is) e refl
+
+  pub twice-not-of-none : r .refused .item ≡ noItem → ⊥
+  twice-not-of-none e = differ (ap (λ l. l .refused .item) twice-is) e refl
+
+-- a bundle of no bytes: 1 at the count, which is about no item
+pub no-facts-right : CheckBundle R [] (refusedWith (refusal 1 1 0))
+unfolding CheckBundle
+no-facts-right = sym (ap shownLength (worked .no-facts))
+
+module _ (r : DzyLength) (p : CheckBundle R [] r) where
+  pub no-facts-is : r ≡ refusedWith (refusal 1 1 0)
+  no-facts-is = one-check-bundle R [] p no-facts-right
+
+  -- an item in the header
+  pub no-facts-not-of-first : r .refused .item ≡ 0 → ⊥
+  no-facts-not-of-first e = differ (ap (λ l. l .refused .item) no-facts-is) e refl
 
 -- ---- the facts as a row of records, with a slot to spare
 abbrev old : Record
@@ -121,12 +169,12 @@ module _ (r : DzyLength) (row : List Record) (p : Records R F seven r row) where
 abbrev five : List Record
 five = old ∷ old ∷ old ∷ old ∷ old ∷ []
 
-pub no-slot-right : Records R F five (refusedWith 9 2 0) five
+pub no-slot-right : Records R F five (refusedWith (refusal 9 2 0)) five
 no-slot-right =
     record { answer = sym (ap (λ a. shownLength (over length a)) (worked .not-handed)); memory = sym (ap (laid five 0) (worked .not-handed)) }
 
 module _ (r : DzyLength) (row : List Record) (p : Records R F five r row) where
-  pub no-slot-is : Same r (refusedWith 9 2 0) row five
+  pub no-slot-is : Same r (refusedWith (refusal 9 2 0)) row five
   no-slot-is = one-records R F five p no-slot-right
 
   -- as many records as there is room for are written
@@ -165,21 +213,29 @@ module _ (r : DzyLength) (out : List ℕ) (p : WriteRecords R six blank r out) w
   pub write-not-refused : 1 ≤ r .refused .number → ⊥
   write-not-refused low = accepted (ap (λ l. l .refused .number) (write-is .answer)) low
 
--- a concept's record that has an object: refusal 5 at that record's number, and the output stays as it was
+-- a concept's record that has an object: refusal 12 at that record's number, and the output stays as it was
 abbrev outSix : List ℕ
 outSix = 5 ∷ 5 ∷ 5 ∷ 5 ∷ 5 ∷ 5 ∷ []
 
-pub bad-row-right : WriteRecords R badRow outSix (refusedWith 5 2 1) outSix
+pub bad-row-right : WriteRecords R badRow outSix (refusedWith (refusal 12 2 1)) outSix
 bad-row-right =
     record { answer = sym (ap (λ a. shownLength (over length a)) (worked .not-written)); memory = sym (ap (laid outSix 0) (worked .not-written)) }
 
 module _ (r : DzyLength) (out : List ℕ) (p : WriteRecords R badRow outSix r out) where
-  pub bad-row-is : Same r (refusedWith 5 2 1) out outSix
+  pub bad-row-is : Same r (refusedWith (refusal 12 2 1)) out outSix
   bad-row-is = one-write-records R badRow outSix p bad-row-right
 
   -- the object is dropped without a word
   pub bad-row-not-accepted : r .refused .number ≡ 0 → ⊥
   bad-row-not-accepted e = differ (ap (λ l. l .refused .number) (bad-row-is .answer)) e refl
+
+  -- it is told as what is not declared
+  pub bad-row-not-undeclared : r .refused .number ≡ 5 → ⊥
+  bad-row-not-undeclared e = differ (ap (λ l. l .refused .number) (bad-row-is .answer)) e refl
+
+  -- the record's number is told as an item too
+  pub bad-row-not-of-item : r .refused .item ≡ 1 → ⊥
+  bad-row-not-of-item e = differ (ap (λ l. l .refused .item) (bad-row-is .answer)) e refl
 
   -- the place is that of another record
   pub bad-row-not-elsewhere : r .refused .place ≡ 0 → ⊥
@@ -194,7 +250,7 @@ abbrev startsAt : ℕ → DzyStart
 startsAt n = record { refused = notRefused; at = n }
 
 abbrev noStart : DzyStart
-noStart = record { refused = record { number = 8; side = 1; place = 3 }; at = 0 }
+noStart = shownStart (refuses (ofItem 1 (refusal 8 1 3)))
 
 pub start-right : ReaderStart R F (startsAt 1)
 unfolding ReaderStart
@@ -290,7 +346,7 @@ module _ (s : RefT (List ℕ)) (bytes : now s ≡ F) where
 
 -- over bytes that are no fact: refusal 1, and it stays where it is
 abbrev noFact : DzyYield
-noFact = record { refused = record { number = 1; side = 1; place = 0 }; found = 0; fact = noRecord }
+noFact = shownYield (refuses (refusal 1 1 0))
 
 module _ (s : RefT (List ℕ)) (bytes : now s ≡ 0x80 ∷ []) where
   pub stop-right : ReaderNext (reader s 0) noFact (reader s 0)
@@ -303,6 +359,10 @@ module _ (s : RefT (List ℕ)) (bytes : now s ≡ 0x80 ∷ []) where
     -- it passes over them
     pub stop-not-moved : after .at ≡ 1 → ⊥
     stop-not-moved e = differ (ap (λ a. a .at) (stop-is .reader)) e refl
+
+    -- it numbers its facts, though it knows of no item
+    pub stop-not-of-item : r .refused .item ≡ 0 → ⊥
+    stop-not-of-item e = differ (ap (λ y. y .refused .item) (stop-is .answer)) e refl
 
     -- it is done, without a refusal
     pub stop-not-done : r .refused .number ≡ 0 → ⊥

@@ -8,14 +8,15 @@ use lib.ListN.{getD}
 use lib.Dec.{eqb}
 use native.Mathlib.Omega.{arith}
 use borrow.Author.Tests.{eqb-false}
-use Rattle.number.specs.Answer.{refusal, over}
+use Rattle.number.specs.Answer.{refusal, ofItem, over}
 use Rattle.number.specs.Answer.Answer.{gives, refuses}
+use Rattle.number.specs.declared.refusal.Refusal.{Refusal}
 use Rattle.number.specs.Number.{formOf, second, third, numberAt, bytesOf}
 use Rattle.site.specs.Codes.{roleOf, conceptOf, conceptDeclared, predicateDeclared}
 use Rattle.site.specs.Lists.{upTo, any, count, keep, first, each}
-use Rattle.site.specs.Items.{countAt, codeAt, endAt}
-use Rattle.rules.specs.RuleFile.{headOf, codeDeclared, ruleAt, rulesFrom, rulesIn, unbroken, afterRules, checkRules, siteOf}
-use Rattle.bundle.specs.Bundle.{factAt, factsFrom, factsIn, checkBundle, readBundle, factBytes, bundleOf}
+use Rattle.site.specs.Items.{testedAt, atMost, itemsFrom, endAt}
+use Rattle.rules.specs.RuleFile.{headOf, codeDeclared, ruleAt, nextRule, rulesIn, nextUnbroken, afterRules, checkRules, siteOf}
+use Rattle.bundle.specs.Bundle.{factAt, nextFact, factsIn, checkBundle, readBundle, factBytes, bundleOf}
 use Rattle.bundle.specs.Opened.{opening}
 use Rattle.writer.specs.Records.{roomFor, recordFault, recordsFrom, planRecords}
 use Rattle.records.specs.Reading.{readerStart, readerStep}
@@ -29,7 +30,7 @@ use Rattle.clashes.specs.declared.answers.Counts.{Counts}
 use Rattle.clean.specs.Operations.{given, roomForMarks, marking, counting, asking, replyOf, having, joining, keeping}
 use Rattle.clean.specs.Operations.Reply.{yes-by, none}
 use Rattle.cases.proofs.Cases.{R, F}
-use Rattle.shown.specs.Shown.{notRefused}
+use Rattle.shown.specs.Shown.{notRefused, shownLength}
 use Rattle.shown.specs.declared.shapes.DzyLength.{DzyLength}
 
 -- uplink(9,7) alone; Switch(7) twice; a functional role on the right of a kind 2 rule
@@ -41,6 +42,10 @@ twice = 0x02 ∷ 0x00 ∷ 0x07 ∷ 0x00 ∷ 0x07 ∷ []
 
 abbrev pub badRules : List ℕ
 badRules = 0x00 ∷ 0x01 ∷ 0x02 ∷ 0x04 ∷ 0x00 ∷ 0x02 ∷ 0x01 ∷ 0x01 ∷ []
+
+-- a rule of kind 5
+abbrev pub badKind : List ℕ
+badKind = 0x00 ∷ 0x00 ∷ 0x01 ∷ 0x05 ∷ []
 
 -- F's facts as records; and a row with a concept's record that has an object
 abbrev pub rec : ℕ → ℕ → ℕ → Record
@@ -68,21 +73,23 @@ pub record Worked : Type 0 where
   pub kept-so : keeping R F 4 ≡ gives (0x01 ∷ 0x01 ∷ 0x09 ∷ [])
   pub not-kept : keeping R F 2 ≡ refuses (refusal 9 2 0)
   pub rules : over (λ h. h .rules) (checkRules R) ≡ gives 5
-  pub bad-rules : over (λ h. h .rules) (checkRules badRules) ≡ refuses (refusal 6 0 3)
+  pub bad-rules : over (λ h. h .rules) (checkRules badRules) ≡ refuses (ofItem 0 (refusal 6 0 3))
+  pub bad-kind : over (λ h. h .rules) (checkRules badKind) ≡ refuses (ofItem 0 (refusal 11 0 3))
   pub facts : over (λ i. i .facts .count) (opening R F) ≡ gives 6
-  pub bad-facts : over (λ i. i .facts .count) (opening R twice) ≡ refuses (refusal 8 1 3)
+  pub no-facts : over (λ i. i .facts .count) (opening R []) ≡ refuses (refusal 1 1 0)
+  pub bad-facts : over (λ i. i .facts .count) (opening R twice) ≡ refuses (ofItem 1 (refusal 8 1 3))
   pub handed : handRecords R F 7 ≡ gives six
   pub not-handed : handRecords R F 5 ≡ refuses (refusal 9 2 0)
   pub written : writeRow R 18 six ≡ gives F
-  pub not-written : writeRow R 6 badRow ≡ refuses (refusal 5 2 1)
+  pub not-written : writeRow R 6 badRow ≡ refuses (refusal 12 2 1)
   pub started : readerStart R F ≡ gives 1
-  pub not-started : readerStart R twice ≡ refuses (refusal 8 1 3)
+  pub not-started : readerStart R twice ≡ refuses (ofItem 1 (refusal 8 1 3))
   pub stepped : readerStep F 7 ≡ record { yields = gives (fact (record { predicate = 64; subject = 9; object = 7 })); next = 10 }
   pub not-stepped : readerStep (0x80 ∷ []) 0 ≡ record { yields = refuses (refusal 1 1 0); next = 0 }
   pub ended : readerStep F 17 ≡ record { yields = gives done; next = 17 }
 
 pub worked : Worked
-unfolding formOf second third numberAt bytesOf roleOf conceptOf conceptDeclared predicateDeclared upTo any count keep first each countAt codeAt endAt headOf codeDeclared ruleAt rulesFrom rulesIn unbroken afterRules checkRules siteOf factAt factsFrom factsIn checkBundle readBundle factBytes bundleOf roomFor recordFault recordsFrom planRecords rolesOf nodesOf arrow mates find rowsOf looked through closure apart empty excludes functionalIn excludedRows followsFrom followsOf typesOf jar split meet alone contradict clash mark partner marks partners marked counts kept supports support given roomForMarks marking counting asking replyOf having joining keeping opening readerStart readerStep handOut handRecords writeRow
+unfolding formOf second third numberAt bytesOf roleOf conceptOf conceptDeclared predicateDeclared upTo any count keep first each testedAt atMost itemsFrom endAt headOf codeDeclared ruleAt nextRule rulesIn nextUnbroken afterRules checkRules siteOf factAt nextFact factsIn checkBundle readBundle factBytes bundleOf roomFor recordFault recordsFrom planRecords rolesOf nodesOf arrow mates find rowsOf looked through closure apart empty excludes functionalIn excludedRows followsFrom followsOf typesOf jar split meet alone contradict clash mark partner marks partners marked counts kept supports support given roomForMarks marking counting asking replyOf having joining keeping opening readerStart readerStep handOut handRecords writeRow
 worked =
     record {
       marked-so = refl;
@@ -97,7 +104,9 @@ worked =
       not-kept = refl;
       rules = refl;
       bad-rules = refl;
+      bad-kind = refl;
       facts = refl;
+      no-facts = refl;
       bad-facts = refl;
       handed = refl;
       not-handed = refl;
@@ -114,8 +123,8 @@ worked =
 abbrev pub long : ℕ → DzyLength
 long n = record { refused = notRefused; length = n }
 
-abbrev pub refusedWith : ℕ → ℕ → ℕ → DzyLength
-refusedWith number side place = record { refused = record { number = number; side = side; place = place }; length = 0 }
+abbrev pub refusedWith : Refusal → DzyLength
+refusedWith r = shownLength (refuses r)
 
 -- one number is not two others; nor, in two rows, the number at one place
 pub differ : {x y z : ℕ} → x ≡ y → x ≡ z → eqb y z ≡ false → ⊥

@@ -7,7 +7,7 @@ use lib.ListN.{length, replicate}
 use lib.Dec.{ltb}
 use native.Mathlib.Omega.{arith}
 use borrow.Author.Tests.{le-ltb, lt-ltb}
-use Rattle.number.specs.Answer.{Answer, Read, _then_}
+use Rattle.number.specs.Answer.{Answer, Read, _then_, noItem}
 use Rattle.number.specs.Answer.Answer.{gives, refuses}
 use Rattle.number.specs.Number.{numberAt}
 use Rattle.number.specs.declared.refusal.Refusal.{Refusal}
@@ -15,9 +15,9 @@ use Rattle.number.proofs.Laws.{bounds, refused-how}
 use Rattle.number.proofs.Answers.{never, same-refused}
 use Rattle.number.proofs.Refusing.{Refuses, refuses-gives, refuses-test, refuses-then}
 use Rattle.site.specs.declared.fact.Fact.{Fact}
-use Rattle.site.specs.Items.{codeAt}
+use Rattle.site.specs.Items.{testedAt, codeAt}
 use Rattle.site.specs.Limits.{mostThing}
-use Rattle.site.proofs.There.{code-there}
+use Rattle.site.proofs.There.{tested-there}
 use Rattle.rules.specs.RuleFile.{checkRules}
 use Rattle.rules.specs.declared.head.Head.{Head}
 use Rattle.bundle.specs.Bundle.{Last, factAt, checkBundle, factsOf}
@@ -78,18 +78,19 @@ module _ (rules s : List ℕ) (h : Head) (b : Facts) (rules-read : checkRules ru
       let t = bundle-there h s b bundle-read in
       run-yields s (t .run) (t .at-end) (b .count + k) k (omega (arith, t .count))
 
--- "or their refusal 1, 2 or 3 on side 1", at a number of the fact
+-- "or their refusal 1, 2 or 3 on side 1", at a number of the fact; a reader knows of no item
 pub record StepRefused (at : ℕ) (r : Refusal) : Type 0 where
   pub side : r .side ≡ 1
   pub low : 1 ≤ r .number
   pub high : r .number ≤ 3
   pub place : at ≤ r .place
+  pub of-none : r .item ≡ noItem
 
 module _ (s : List ℕ) where
   number-refused : (start at : ℕ) → start ≤ at → Refuses (StepRefused start) (numberAt s at mostThing 1)
   number-refused start at later r e =
       let how = refused-how at mostThing 1 r s e in
-      record { side = how .side-given; low = how .low; high = how .high; place = omega (arith, how .first-byte) }
+      record { side = how .side-given; low = how .low; high = how .high; place = omega (arith, how .first-byte); of-none = how .of-none }
 
   passes : (at v next : ℕ) → numberAt s at mostThing 1 ≡ gives (record { value = v; next = next }) → at ≤ next
   passes at v next e = omega (arith, bounds s at mostThing 1 v next e .past)
@@ -103,11 +104,11 @@ module _ (s : List ℕ) where
       (refuses-then _ (numberAt s (a .next) mostThing 1) _ (number-refused start (a .next) (omega (arith, passes at (a .value) (a .next) e))) (λ b e′. refuses-gives _ _)))
 
   fact-refused : (at : ℕ) → Refuses (StepRefused at) (factAt (λ _. true) s at)
-  unfolding codeAt
+  unfolding testedAt
   fact-refused at r e =
       refuses-then _ (codeAt s at (λ _. true) 1) (λ p. factRest s (p .value) (p .next))
       (refuses-then _ (numberAt s at mostThing 1) gives (number-refused at at (omega arith)) (λ n e′. refuses-gives _ n))
-      (λ p e′. rest-refused at (p .value) (p .next) (passes at (p .value) (p .next) (code-there s at (λ _. true) 1 p e′ .number))) r (sym (fact-by-rest (λ _. true) s at) ∙ e)
+      (λ p e′. rest-refused at (p .value) (p .next) (passes at (p .value) (p .next) (tested-there s at (λ _. true) 5 1 p e′ .number))) r (sym (fact-by-rest (λ _. true) s at) ∙ e)
 
   by-fact : (at : ℕ) (a : Answer (Read Fact)) (r : Refusal) → goesOn at a .yields ≡ refuses r → a ≡ refuses r
   by-fact at (gives f) r e = absurd (never (sym e))

@@ -76,7 +76,7 @@ module _ (h : Head) (few : h .roles ≤ mostRoles) where
   unfolding recordFault
   faultless last f e =
       let a = no-fault (not (predicateKnown h (f .predicate))) 4 _ e in
-      let b = no-fault (ofConcept f && not (eqb (f .object) 0)) 4 _ (a .later) in
+      let b = no-fault (ofConcept f && not (eqb (f .object) 0)) 11 _ (a .later) in
       let c = no-fault (not (leb (f .subject) mostThing)) 2 _ (b .later) in
       let d = no-fault (not (leb (f .object) mostThing)) 2 _ (c .later) in
       let o = no-fault (not (ascends last f)) 7 0 (d .later) in

@@ -6,7 +6,7 @@ use mathlib.Core.List.{List, [], _∷_, map}
 use lib.ListN.{length, length-map, take, drop, getD}
 use native.Mathlib.Omega.{arith}
 use borrow.Author.Needs.{needs}
-use Rattle.number.specs.Answer.{Answer, refusal, over}
+use Rattle.number.specs.Answer.{Answer, noRefusal, over}
 use Rattle.number.specs.Answer.Answer.{gives, refuses}
 use Rattle.number.specs.declared.refusal.Refusal.{Refusal}
 use Rattle.site.specs.declared.fact.Fact.{Fact}
@@ -37,7 +37,7 @@ module _ (rules : List ℕ) (records room : ℕ) (a : RulesRead) (is : rulesTold
   open-refused r stopped is-w = rw (← is, stopped, is-w)
 
   pub open-accepted : (h : Head) → a ≡ Accepted h → w ≡ startOf records room false
-      → _≡_ {A = Opening} (record { accepted = true; refusal = refusal 0 0 0; head = h; turns = records; first = w }) (opened rules records room)
+      → _≡_ {A = Opening} (record { accepted = true; refusal = noRefusal; head = h; turns = records; first = w }) (opened rules records room)
   unfolding opened
   open-accepted h read is-w = rw (← is, read, is-w)
 
@@ -56,7 +56,7 @@ module _ (o : Opening) where
   end-refused last r is-r none = rw none is-r
 
 module _ (a : BundleWrote) where
-  pub told-written : (n : ℕ) → a ≡ Written n → _≡_ {A = RowAnswer} (record { number = 0; side = 0; place = 0; length = n }) (rowAnswer (wroteTold a))
+  pub told-written : (n : ℕ) → a ≡ Written n → _≡_ {A = RowAnswer} (record { number = 0; side = 0; place = 0; item = 0; length = n }) (rowAnswer (wroteTold a))
   told-written n is = rw is
 
   pub told-refused : (x : Refusal) (r : RowAnswer) → a ≡ NotWritten x → r ≡ rowAnswer (refuses x) → r ≡ rowAnswer (wroteTold a)

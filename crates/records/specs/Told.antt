@@ -33,10 +33,10 @@ yieldTold Done = gives done
 abbrev pub stepTold : Step → Stepped
 stepTold s = record { yields = yieldTold (s .yields); next = s .next }
 
--- "gives their count", "gives their bundle and its length": an answer over a row, or the refusal's number, side and place
+-- "gives their count", "gives their bundle and its length": an answer over a row, or the refusal
 abbrev pub rowAnswer : Answer ℕ → RowAnswer
-rowAnswer (gives length) = record { number = 0; side = 0; place = 0; length = length }
-rowAnswer (refuses r) = record { number = r .number; side = r .side; place = r .place; length = 0 }
+rowAnswer (gives length) = record { number = 0; side = 0; place = 0; item = 0; length = length }
+rowAnswer (refuses r) = record { number = r .number; side = r .side; place = r .place; item = r .item; length = 0 }
 
 -- what is handed out, with the answer: nothing where there is a refusal
 abbrev pub decided : Answer Facts → Hand

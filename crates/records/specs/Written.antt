@@ -4,7 +4,7 @@ use mathlib.Core.Path.{_≡_}
 use mathlib.Core.Bool.{true, false, cond}
 use mathlib.Core.List.{List, map}
 use lib.ListN.{length}
-use Rattle.number.specs.Answer.{Answer, refusal, over, laid}
+use Rattle.number.specs.Answer.{Answer, noRefusal, over, laid}
 use Rattle.number.specs.Answer.Answer.{gives, refuses}
 use Rattle.rules.specs.RuleFile.{checkRules}
 use Rattle.rules.specs.declared.head.Head.{Head}
@@ -19,7 +19,7 @@ use Rattle.records.specs.declared.answer.RowAnswer.{RowAnswer}
 -- the start by what the rules came to: the first pass over so many records, or no turns
 abbrev pub openedBy : Answer Head → ℕ → ℕ → Opening
 openedBy (gives h) records room =
-    record { accepted = true; refusal = refusal 0 0 0; head = h; turns = records; first = startOf records room false }
+    record { accepted = true; refusal = noRefusal; head = h; turns = records; first = startOf records room false }
 openedBy (refuses r) records room =
     record {
       accepted = false;

@@ -6,5 +6,6 @@ pub struct RowAnswer {
     pub number: u32,
     pub side: u32,
     pub place: usize,
+    pub item: u32,
     pub length: usize,
 }

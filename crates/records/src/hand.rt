@@ -34,6 +34,7 @@ fn refuse(r: Refusal) -> Hand
             number: r.number,
             side: r.side,
             place: r.place,
+            item: r.item,
             length: 0,
         },
     }
@@ -57,6 +58,7 @@ pub fn decide(rules: &[u8], bundle: &[u8], room: usize) -> Hand
                     number: 0,
                     side: 0,
                     place: 0,
+                    item: 0,
                     length: count,
                 },
             }

@@ -76,6 +76,7 @@ fn refused(r: Refusal) -> RowAnswer
         number: r.number,
         side: r.side,
         place: r.place,
+        item: r.item,
         length: 0,
     }
 }
@@ -88,6 +89,7 @@ fn wrote(answer: BundleWrote) -> RowAnswer
             number: 0,
             side: 0,
             place: 0,
+            item: 0,
             length,
         },
         BundleWrote::Refused(r) => refused(r),

@@ -3,22 +3,22 @@ use Prim.Native.Nat.{ℕ, zero, suc, _≤_, _<_}
 use mathlib.Core.Path.{_≡_, refl, sym, subst, _∙_}
 use mathlib.Core.Bool.{Bool, true, false, cond}
 use mathlib.Core.List.{List}
-use lib.Dec.{leb, eqb}
+use lib.Dec.{eqb}
 use native.Mathlib.Omega.{arith}
-use borrow.Author.Tests.{leb-true, eqb-true, eqb-false}
+use borrow.Author.Tests.{eqb-true, eqb-false}
 use Rattle.number.specs.Answer.{Answer, Read, _then_}
 use Rattle.number.specs.Answer.Answer.{gives}
 use Rattle.number.proofs.Answers.{went, given-once}
 use Rattle.site.specs.Codes.{conceptDeclared, roleDeclared, conceptOf, roleOf, ruleOf}
 use Rattle.site.specs.Kinds.{Rule, Site, declared, declaredRole}
 use Rattle.site.specs.Kinds.Node.{concept}
-use Rattle.site.specs.Items.{codeAt, countAt}
+use Rattle.site.specs.Items.{atMost, codeAt, countAt}
 use Rattle.site.specs.Limits.{mostConcepts, mostRoles, mostRules, lastKind, functionalKind}
 use Rattle.site.proofs.Lists.{and-both}
-use Rattle.site.proofs.There.{count-there, code-there}
+use Rattle.site.proofs.There.{within-limit, tested-there, count-there}
 use Rattle.site.proofs.OfKinds.{role-declared, concept-declared}
 use Rattle.rules.specs.Lawful.{ruleDeclared}
-use Rattle.rules.specs.RuleFile.{headOf, codeDeclared, ruleAt}
+use Rattle.rules.specs.RuleFile.{headOf, codeDeclared, kindAt, ruleAt}
 use Rattle.rules.specs.declared.head.Head.{Head}
 
 below-4 : (n : ℕ) → n ≤ 4 → (n ≡ 4 → ⊥) → n < 4
@@ -64,18 +64,18 @@ module _ (h : Head) (rules : List Rule) where
     after-first kind x false is-4 k known e =
         let y = went (codeAt s (x .next) (codeDeclared h kind) 0) _ e in
         let less : kind < 4 = below-4 kind k (eqb-false kind 4 is-4) in
-        let there = two-codes kind (x .value) (y .value .value) less known (code-there s (x .next) (codeDeclared h kind) 0 (y .value) (y .first) .holds) in
+        let there = two-codes kind (x .value) (y .value .value) less known (tested-there s (x .next) (codeDeclared h kind) 5 0 (y .value) (y .first) .holds) in
         subst (λ (m : Read Rule). ruleDeclared site (m .value) ≡ true) (given-once (y .rest)) there
 
     -- a rule that was read has declared codes
     pub rule-is-declared : (at : ℕ) → ruleAt h s at ≡ gives r → ruleDeclared site (r .value) ≡ true
     unfolding ruleAt rest
     rule-is-declared at e =
-        let kind = went (codeAt s at (λ kind. leb kind lastKind) 0) _ e in
+        let kind = went (kindAt s at) _ e in
         let x = went (codeAt s (kind .value .next) (codeDeclared h (kind .value .value)) 0) _ (kind .rest) in
         after-first (kind .value .value) (x .value) (eqb (kind .value .value) functionalKind) refl
-        (leb-true (kind .value .value) lastKind (code-there s at (λ k. leb k lastKind) 0 (kind .value) (kind .first) .holds))
-        (code-there s (kind .value .next) (codeDeclared h (kind .value .value)) 0 (x .value) (x .first) .holds)
+        (within-limit lastKind (kind .value .value) (tested-there s at (atMost lastKind) 11 0 (kind .value) (kind .first) .holds))
+        (tested-there s (kind .value .next) (codeDeclared h (kind .value .value)) 5 0 (x .value) (x .first) .holds)
         (x .rest)
 
 -- the head's limits

@@ -1,20 +1,20 @@
 -- An accepted rule file's rules are lawful: the walk that read them says so of each, and the last walk of the functional ones.
-use Prim.Native.Nat.{ℕ, zero, suc, _≤_}
+use Prim.Native.Nat.{ℕ, zero, suc, _+_, _≤_}
 use mathlib.Core.Path.{_≡_, refl, sym, subst, _∙_}
 use mathlib.Core.Bool.{true, false, cond, true≢false}
 use mathlib.Core.List.{List, _∷_, List·Memᴰ, List·Memᴰ·not-nil, List·Memᴰ·cases-cons}
 use mathlib.Core.Logic.{⊎-elim}
 use lib.ListN.{length}
 use borrow.Author.Tests.{eq-eqb}
-use Rattle.number.specs.Answer.{Answer, Read, refusal, _then_}
+use Rattle.number.specs.Answer.{Answer, Read, refusal, about, _then_}
 use Rattle.number.specs.Answer.Answer.{gives, refuses}
-use Rattle.number.proofs.Answers.{went, not-stopped, given-once}
+use Rattle.number.proofs.Answers.{went, not-stopped, about-given, given-once}
 use Rattle.site.specs.Kinds.{Rule, Site, roleIn}
-use Rattle.site.specs.Items.{endAt, onward}
+use Rattle.site.specs.Items.{itemsFrom, endAt, onward}
 use Rattle.site.proofs.Lists.{any-of}
 use Rattle.site.proofs.There.{end-there}
 use Rattle.rules.specs.Lawful.{Lawful, ruleDeclared}
-use Rattle.rules.specs.RuleFile.{headOf, ruleAt, rulesFrom, rulesIn, onRight, broken, unbroken, afterRules, checkRules, siteOf}
+use Rattle.rules.specs.RuleFile.{headOf, ruleAt, rulesFrom, rulesIn, onRight, broken, nextUnbroken, unbroken, afterRules, checkRules, siteOf}
 use Rattle.rules.specs.declared.head.Head.{Head}
 use Rattle.rules.proofs.Accepted.{rule-is-declared, head-within}
 
@@ -35,18 +35,21 @@ module _ (h : Head) (s : List ℕ) (rules : List Rule) where
       from later (refuses f) e m = absurd (List·Memᴰ·not-nil m)
 
   -- the last walk found no functional rule broken
-  pub all-unbroken : (n at : ℕ) (end : ℕ) → unbroken h s rules n at ≡ gives end → {r : Rule} → List·Memᴰ r (rulesIn h s n at) → broken rules r ≡ false
-  unfolding rulesIn unbroken
-  all-unbroken zero at end e m = absurd (List·Memᴰ·not-nil m)
-  all-unbroken (suc n) at end e {r} m = from (λ next k. all-unbroken n next end k) (ruleAt h s at) e m
+  pub all-unbroken : (k n at : ℕ) (end : ℕ) → itemsFrom (nextUnbroken h s rules) k n at ≡ gives end → {r : Rule} → List·Memᴰ r (rulesIn h s n at) → broken rules r ≡ false
+  unfolding rulesIn itemsFrom nextUnbroken
+  all-unbroken k zero at end e m = absurd (List·Memᴰ·not-nil m)
+  all-unbroken k (suc n) at end e {r} m =
+      let w = went (about k (nextUnbroken h s rules at)) _ e in
+      from (all-unbroken (k + 1) n (w .value) end (w .rest)) (ruleAt h s at) (about-given k (nextUnbroken h s rules at) (w .first)) m
     where
-      from : ((next : ℕ) → unbroken h s rules n next ≡ gives end → List·Memᴰ r (rulesIn h s n next) → broken rules r ≡ false) → (a : Answer (Read Rule))
-          → (a then λ f. cond (broken rules (f .value)) (refuses (refusal 6 0 at)) (unbroken h s rules n (f .next))) ≡ gives end
+      from : {next : ℕ} → (List·Memᴰ r (rulesIn h s n next) → broken rules r ≡ false) → (a : Answer (Read Rule))
+          → (a then λ f. cond (broken rules (f .value)) (refuses (refusal 6 0 at)) (gives (f .next))) ≡ gives next
           → List·Memᴰ r (onward a (λ f. f .value ∷ rulesIn h s n (f .next))) → broken rules r ≡ false
-      from later (gives f) k m =
-          let whole-one = not-stopped (broken rules (f .value)) (unbroken h s rules n (f .next)) (refusal 6 0 at) k in
-          ⊎-elim (λ same. subst (λ (x : Rule). broken rules x ≡ false) (sym same) (whole-one .test)) (later (f .next) (whole-one .answer)) (List·Memᴰ·cases-cons m)
-      from later (refuses f) k m = absurd (List·Memᴰ·not-nil m)
+      from later (gives f) g m =
+          let one = not-stopped (broken rules (f .value)) (gives (f .next)) (refusal 6 0 at) g in
+          ⊎-elim (λ same. subst (λ (x : Rule). broken rules x ≡ false) (sym same) (one .test))
+          (λ among. later (subst (λ (p : ℕ). List·Memᴰ r (rulesIn h s n p)) (given-once (one .answer)) among)) (List·Memᴰ·cases-cons m)
+      from later (refuses f) g m = absurd (List·Memᴰ·not-nil m)
 
 -- what acceptance is made of
 pub record AcceptedRules (s : List ℕ) (h : Head) : Type 0 where
@@ -88,5 +91,5 @@ accepted-lawful s h e =
       unbroken = λ q p r is-functional is-right same.
           true≢false
           (sym (any-of (onRight (roleIn q)) is-right (eq-eqb (roleIn r) (roleIn q) same))
-          ∙ all-unbroken h s all (h .rules) (h .start) (a .last) (a .whole) is-functional);
+          ∙ all-unbroken h s all 0 (h .rules) (h .start) (a .last) (a .whole) is-functional);
     }

@@ -10,12 +10,12 @@ use native.Mathlib.Decide.{ℕ-discrete as decEq}
 use native.Mathlib.Omega.{arith}
 use borrow.Author.Tests.{lt-ltb, le-ltb, eq-eqb, ne-eqb, ltb-true}
 use borrow.Author.Needs.{needs}
-use Rattle.number.specs.Answer.{Answer, refusal, _then_}
+use Rattle.number.specs.Answer.{Answer, refusal, ofItem}
 use Rattle.number.specs.Answer.Answer.{gives, refuses}
 use Rattle.number.specs.declared.refusal.Refusal.{Refusal}
 use Rattle.site.specs.Kinds.{Rule as SaidRule, roleIn}
 use Rattle.site.specs.Kinds.Rule.{included, disjoint, roleIncluded, roleDisjoint, functional}
-use Rattle.site.specs.Items.{endAt, onward}
+use Rattle.site.specs.Items.{itemsFrom, endAt, onward}
 use Rattle.site.specs.Lists.{any}
 use Rattle.site.specs.Limits.{mostRoles}
 use Rattle.site.specs.Told.{ruleTold, endTold}
@@ -25,9 +25,10 @@ use Rattle.site.specs.declared.nodes.BasicRole.{BasicRole as RoleCode}
 use Rattle.site.specs.declared.nodes.Role.{Role}
 use Rattle.site.specs.declared.rule.Rule.{Rule}
 use Rattle.site.specs.declared.rule.Rule.the-variants.{RoleIncluded, Functional}
+use Rattle.site.proofs.Numbered.{Left, left-all, left-none, left-refused, left-next}
 use Rattle.site.proofs.OfKinds.{role-number}
 use Rattle.rules.proofs.Accepted.{rule-is-declared, head-roles}
-use Rattle.rules.specs.RuleFile.{headOf, ruleAt, rulesFrom, rulesIn, onRight, broken, unbroken, afterRules, checkRules}
+use Rattle.rules.specs.RuleFile.{headOf, ruleAt, nextRule, rulesFrom, rulesIn, onRight, broken, nextUnbroken, unbroken, afterRules, checkRules}
 use Rattle.rules.specs.Told.{headTold, ruleReadTold, ruleReadRefusal, rulesTold, Rights, rightRole, rightAt, brokenBy}
 use Rattle.rules.specs.declared.head.Head.{Head}
 use Rattle.rules.specs.declared.head.HeadRead.{HeadRead}
@@ -53,76 +54,71 @@ pub right-out : (right : List Bool) (role : ℕ) → mostRoles ≤ role → fals
 unfolding rightAt
 right-out right role h = rw (le-ltb role mostRoles h)
 
+-- the walks begin and end
+module _ (h : Head) (s : List ℕ) (n at : ℕ) where
+  pub rules-begin : Left (nextRule h s) (rulesFrom h s n at) n n at
+  rules-begin = left-all (nextRule h s) n at
+
+  pub unbroken-begin : (rules : List SaidRule) → Left (nextUnbroken h s rules) (unbroken h s rules n at) n n at
+  unbroken-begin rules = left-all (nextUnbroken h s rules) n at
+
+  module _ (over : n ≤ 0) where
+    pub all-read : rulesIn h s n at ≡ []
+    unfolding rulesIn
+    all-read = let none : n ≡ 0 = omega arith in ap (λ (k : ℕ). rulesIn h s k at) none
+
+    module _ (whole : Answer ℕ) (all : ℕ) where
+      pub rules-end : Left (nextRule h s) whole all n at → gives at ≡ whole
+      rules-end w = sym (left-none (nextRule h s) whole all n at w over)
+
+      pub unbroken-end : (rules : List SaidRule) → Left (nextUnbroken h s rules) whole all n at → gives at ≡ whole
+      unbroken-end rules w = sym (left-none (nextUnbroken h s rules) whole all n at w over)
+
 -- one turn of each walk
 module _ (h : Head) (s : List ℕ) (n at : ℕ) (more : 0 < n) where
-  counted : n ≡ suc (n - 1)
-  counted = omega arith
-
-  from-turn : rulesFrom h s n at ≡ (ruleAt h s at then λ r. rulesFrom h s (n - 1) (r .next))
-  unfolding rulesFrom
-  from-turn = ap (λ (k : ℕ). rulesFrom h s k at) counted
-
   in-turn : rulesIn h s n at ≡ onward (ruleAt h s at) (λ r. r .value ∷ rulesIn h s (n - 1) (r .next))
   unfolding rulesIn
-  in-turn = ap (λ (k : ℕ). rulesIn h s k at) counted
-
-  unbroken-turn : (rules : List SaidRule)
-      → unbroken h s rules n at
-      ≡ (ruleAt h s at then λ r. cond (broken rules (r .value)) (refuses (refusal 6 0 at)) (unbroken h s rules (n - 1) (r .next)))
-  unfolding unbroken
-  unbroken-turn rules = ap (λ (k : ℕ). unbroken h s rules k at) counted
+  in-turn = let counted : n ≡ suc (n - 1) = omega arith in ap (λ (k : ℕ). rulesIn h s k at) counted
 
   module _ (e : RuleRead) (is : ruleReadTold e ≡ ruleAt h s at) where
     module _ (r : Refusal) (stopped : e ≡ RuleRefused r) where
       refused : ruleAt h s at ≡ refuses r
       refused = sym is ∙ ap ruleReadTold stopped
 
-      module _ (u : Refusal) (handed : u ≡ ruleReadRefusal e) where
-        the-refusal : u ≡ r
-        the-refusal = handed ∙ ap ruleReadRefusal stopped
-
-        pub end-refused : (whole : Answer ℕ) → whole ≡ rulesFrom h s n at → endTold (Refused u) ≡ whole
-        end-refused whole w = rw (w, from-turn, refused, the-refusal)
-
-        pub unbroken-refused : (rules : List SaidRule) (whole : Answer ℕ) → whole ≡ unbroken h s rules n at → endTold (Refused u) ≡ whole
-        unbroken-refused rules whole w = rw (w, unbroken-turn rules, refused, the-refusal)
-
       pub none-left : rulesIn h s n at ≡ []
       none-left = rw (in-turn, refused)
+
+      module _ (u : Refusal) (handed : u ≡ ruleReadRefusal e) (whole : Answer ℕ) (all : ℕ) (v : Refusal) (numbered : v ≡ ofItem (all - n) u) where
+        the-refusal : endTold (Refused v) ≡ refuses (ofItem (all - n) r)
+        the-refusal = ap refuses (numbered ∙ ap (ofItem (all - n)) (handed ∙ ap ruleReadRefusal stopped))
+
+        pub rules-refused : Left (nextRule h s) whole all n at → endTold (Refused v) ≡ whole
+        unfolding nextRule
+        rules-refused w = the-refusal ∙ sym (left-refused (nextRule h s) whole all n at w more r (rw refused))
+
+        pub unbroken-refused : (rules : List SaidRule) → Left (nextUnbroken h s rules) whole all n at → endTold (Refused v) ≡ whole
+        unfolding nextUnbroken
+        unbroken-refused rules w = the-refusal ∙ sym (left-refused (nextUnbroken h s rules) whole all n at w more r (rw refused))
 
     module _ (rule : Rule) (next : ℕ) (read : e ≡ RuleIs rule next) where
       gave : ruleAt h s at ≡ gives (record { value = ruleTold rule; next = next })
       gave = sym is ∙ ap ruleReadTold read
 
-      pub end-again : (whole : Answer ℕ) → whole ≡ rulesFrom h s n at → whole ≡ rulesFrom h s (n - 1) next
-      end-again whole w = w ∙ rw (from-turn, gave)
-
       pub one-more : rulesIn h s n at ≡ ruleTold rule ∷ rulesIn h s (n - 1) next
       one-more = rw (in-turn, gave)
 
-      module _ (rules : List SaidRule) (whole : Answer ℕ) (w : whole ≡ unbroken h s rules n at) where
-        pub unbroken-stops : broken rules (ruleTold rule) ≡ true → refuses (refusal 6 0 at) ≡ whole
-        unbroken-stops b = rw (w, unbroken-turn rules, gave, b)
+      pub rules-again : (whole : Answer ℕ) (all : ℕ) → Left (nextRule h s) whole all n at → Left (nextRule h s) whole all (n - 1) next
+      unfolding nextRule
+      rules-again whole all w = left-next (nextRule h s) whole all n at w more next (rw gave)
 
-        pub unbroken-again : broken rules (ruleTold rule) ≡ false → whole ≡ unbroken h s rules (n - 1) next
-        unbroken-again b = w ∙ rw (unbroken-turn rules, gave, b)
+      module _ (rules : List SaidRule) (whole : Answer ℕ) (all : ℕ) (w : Left (nextUnbroken h s rules) whole all n at) where
+        unbroken-stops : broken rules (ruleTold rule) ≡ true → refuses (ofItem (all - n) (refusal 6 0 at)) ≡ whole
+        unfolding nextUnbroken
+        unbroken-stops b = sym (left-refused (nextUnbroken h s rules) whole all n at w more (refusal 6 0 at) (rw (gave, b)))
 
--- the walks end
-module _ (h : Head) (s : List ℕ) (n at : ℕ) (over : n ≤ 0) where
-  none : n ≡ 0
-  none = omega arith
-
-  pub all-read : rulesIn h s n at ≡ []
-  unfolding rulesIn
-  all-read = ap (λ (k : ℕ). rulesIn h s k at) none
-
-  pub end-done : (whole : Answer ℕ) → whole ≡ rulesFrom h s n at → gives at ≡ whole
-  unfolding rulesFrom
-  end-done whole w = sym (w ∙ ap (λ (k : ℕ). rulesFrom h s k at) none)
-
-  pub unbroken-done : (rules : List SaidRule) (whole : Answer ℕ) → whole ≡ unbroken h s rules n at → gives at ≡ whole
-  unfolding unbroken
-  unbroken-done rules whole w = sym (w ∙ ap (λ (k : ℕ). unbroken h s rules k at) none)
+        unbroken-again : broken rules (ruleTold rule) ≡ false → Left (nextUnbroken h s rules) whole all (n - 1) next
+        unfolding nextUnbroken
+        unbroken-again b = left-next (nextUnbroken h s rules) whole all n at w more next (rw (gave, b))
 
 -- the roles on the right, as the rules are walked: what was found, and what is left
 pub record RightsSoFar (whole rest : List SaidRule) (right : List Bool) : Type 0 where
@@ -204,16 +200,16 @@ broken-by h s at rules right has few (functional q) next e =
     sym (right-in right (roleIn q) within) ∙ has .each-role (roleIn q) within
 
 module _ (h : Head) (s : List ℕ) (n at : ℕ) (more : 0 < n) (e : RuleRead) (is : ruleReadTold e ≡ ruleAt h s at) (rule : Rule) (next : ℕ) (read : e ≡ RuleIs rule next)
-    (rules : List SaidRule) (whole : Answer ℕ) (w : whole ≡ unbroken h s rules n at) (right : List Bool) (has : Rights rules right) (few : h .roles ≤ mostRoles)
+    (rules : List SaidRule) (whole : Answer ℕ) (all : ℕ) (w : Left (nextUnbroken h s rules) whole all n at) (right : List Bool) (has : Rights rules right) (few : h .roles ≤ mostRoles)
     (b : Bool) (is-b : b ≡ brokenBy right (ruleTold rule)) where
   decided : b ≡ broken rules (ruleTold rule)
   decided = is-b ∙ broken-by h s at rules right has few (ruleTold rule) next (gave h s n at more e is rule next read)
 
-  pub functional-stops : b ≡ true → refuses (refusal 6 0 at) ≡ whole
-  functional-stops t = unbroken-stops h s n at more e is rule next read rules whole w (sym decided ∙ t)
+  pub functional-stops : b ≡ true → refuses (ofItem (all - n) (refusal 6 0 at)) ≡ whole
+  functional-stops t = unbroken-stops h s n at more e is rule next read rules whole all w (sym decided ∙ t)
 
-  pub functional-again : b ≡ false → whole ≡ unbroken h s rules (n - 1) next
-  functional-again f = unbroken-again h s n at more e is rule next read rules whole w (sym decided ∙ f)
+  pub functional-again : b ≡ false → Left (nextUnbroken h s rules) whole all (n - 1) next
+  functional-again f = unbroken-again h s n at more e is rule next read rules whole all w (sym decided ∙ f)
 
 -- what is judged after the last rule
 module _ (s : List ℕ) (h : Head) (at : ℕ) (e : End) (is : endTold e ≡ endAt s at 0) where
@@ -251,4 +247,4 @@ module _ (s : List ℕ) (n : HeadRead) (is : headTold n ≡ headOf s) where
       whole-after at k w after = rw (← is, read, ← is-e, k) after
 
 pub ruleset checking =
-    (right-is, right-broken, right-in, right-out, end-refused, end-again, end-done, right-entry, rights-start, rights-done, rights-refused, rights-again, unbroken-refused, unbroken-done, functional-stops, functional-again, after-end, after-broken, after-all, whole-head, few-roles, whole-rules, whole-after, needs)
+    (right-is, right-broken, right-in, right-out, rules-begin, rules-refused, rules-again, rules-end, right-entry, rights-start, rights-done, rights-refused, rights-again, unbroken-begin, unbroken-refused, unbroken-end, functional-stops, functional-again, after-end, after-broken, after-all, whole-head, few-roles, whole-rules, whole-after, needs)

@@ -8,3 +8,5 @@ pub mod Longest
 pub mod OneAnswer
 pub mod Reading
 pub mod Refusals
+pub mod OfFaults
+pub mod ItemCases

@@ -7,16 +7,16 @@ use mathlib.Core.List.{List}
 use lib.ListN.{length, take}
 use lib.Dec.{ltb, leb, eqb}
 use native.Mathlib.Omega.{arith}
-use borrow.Author.Tests.{lt-ltb, ltb-true, leb-true}
-use Rattle.number.specs.Answer.{Read, _then_}
+use borrow.Author.Tests.{lt-ltb, ltb-true}
+use Rattle.number.specs.Answer.{Read, over, about, _then_}
 use Rattle.number.specs.Answer.Answer.{gives}
-use Rattle.number.proofs.Answers.{Given, given-gives, given-test, given-then, then-same}
+use Rattle.number.proofs.Answers.{about-given, over-given, Given, given-gives, given-test, given-then, then-same}
 use Rattle.number.proofs.Laws.{Bytes, two-bytes, one-form, one-byte}
 use Rattle.site.specs.Codes.{conceptDeclared, roleDeclared}
-use Rattle.site.specs.Items.{countAt, codeAt, endAt}
+use Rattle.site.specs.Items.{atMost, countAt, codeAt, itemsFrom, endAt}
 use Rattle.site.specs.Limits.{mostNumber, mostConcepts, mostRoles, mostRules, lastKind, functionalKind}
-use Rattle.site.proofs.There.{count-there, code-there, same-count, same-code}
-use Rattle.rules.specs.RuleFile.{headOf, codeDeclared, ruleAt, rulesFrom, afterRules, checkRules}
+use Rattle.site.proofs.There.{within-limit, tested-there, count-there, same-tested}
+use Rattle.rules.specs.RuleFile.{headOf, codeDeclared, kindAt, ruleAt, nextRule, rulesFrom, afterRules, checkRules}
 use Rattle.rules.specs.declared.head.Head.{Head}
 use Rattle.rules.proofs.Accepted.{head-within}
 use Rattle.rules.proofs.AcceptedFile.{accepted-rules}
@@ -52,10 +52,10 @@ module _ (s : List ℕ) (bytes : Bytes s) where
       let c = count-there s at limit 0 n e in
       one-byte s at mostNumber 0 (n .value) (n .next) (c .number) bytes (omega (arith, c .within))
 
-  after-kind : (at : ℕ) (n : Read ℕ) → codeAt s at (λ kind. leb kind lastKind) 0 ≡ gives n → n .next ≡ at + 1
+  after-kind : (at : ℕ) (n : Read ℕ) → kindAt s at ≡ gives n → n .next ≡ at + 1
   after-kind at n e =
-      let c = code-there s at (λ kind. leb kind lastKind) 0 n e in
-      one-byte s at mostNumber 0 (n .value) (n .next) (c .number) bytes (omega (arith, leb-true (n .value) lastKind (c .holds)))
+      let c = tested-there s at (atMost lastKind) 11 0 n e in
+      one-byte s at mostNumber 0 (n .value) (n .next) (c .number) bytes (omega (arith, within-limit lastKind (n .value) (c .holds)))
 
   head-near : Given (λ h. h .start ≤ 4) (headOf s)
   unfolding headOf
@@ -75,13 +75,13 @@ module _ (s : List ℕ) (bytes : Bytes s) where
   module _ (h : Head) (few : h .roles ≤ mostRoles) where
     after-code : (kind at : ℕ) (n : Read ℕ) → codeAt s at (codeDeclared h kind) 0 ≡ gives n → n .next ≡ at + 1
     after-code kind at n e =
-        let c = code-there s at (codeDeclared h kind) 0 n e in
+        let c = tested-there s at (codeDeclared h kind) 5 0 n e in
         one-byte s at mostNumber 0 (n .value) (n .next) (c .number) bytes (code-low h kind (n .value) few (c .holds))
 
     rule-near : (at : ℕ) → Given (λ r. r .next ≤ at + 3) (ruleAt h s at)
     unfolding ruleAt
     rule-near at =
-        given-then _ (codeAt s at (λ kind. leb kind lastKind) 0) _
+        given-then _ (kindAt s at) _
         (λ kind e.
         given-then _ (codeAt s (kind .next) (codeDeclared h (kind .value)) 0) _
         (λ x f.
@@ -91,17 +91,23 @@ module _ (s : List ℕ) (bytes : Bytes s) where
         (given-then _ (codeAt s (x .next) (codeDeclared h (kind .value)) 0) _
         (λ y g. given-gives _ _ (omega (arith, after-code (kind .value) (x .next) y g))))))
 
-    rules-near : (n at : ℕ) → Given (λ end. end ≤ at + 3 * n) (rulesFrom h s n at)
-    unfolding rulesFrom
-    rules-near zero at = given-gives (λ end. end ≤ at + 3 * 0) at (omega arith)
-    rules-near (suc n) at =
-        given-then (λ end. end ≤ at + 3 * suc n) (ruleAt h s at) (λ r. rulesFrom h s n (r .next))
-        (λ r e end f. omega (arith, rule-near at r e, rules-near n (r .next) end f))
+    next-near : (at : ℕ) → Given (λ next. next ≤ at + 3) (nextRule h s at)
+    unfolding nextRule
+    next-near at next e =
+        let o = over-given (λ r. r .next) (ruleAt h s at) e in
+        omega (arith, rule-near at (o .value) (o .given), o .told)
+
+    rules-near : (k n at : ℕ) → Given (λ end. end ≤ at + 3 * n) (itemsFrom (nextRule h s) k n at)
+    unfolding itemsFrom
+    rules-near k zero at = given-gives (λ end. end ≤ at + 3 * 0) at (omega arith)
+    rules-near k (suc n) at =
+        given-then (λ end. end ≤ at + 3 * suc n) (about k (nextRule h s at)) (λ next. itemsFrom (nextRule h s) (k + 1) n next)
+        (λ next e end f. omega (arith, next-near at next (about-given k (nextRule h s at) e), rules-near (k + 1) n next end f))
 
   walk-near : (h : Head) (end : ℕ) → headOf s ≡ gives h → rulesFrom h s (h .rules) (h .start) ≡ gives end → end ≤ longest
   walk-near h end e f =
       let within = head-within s h e in
-      omega (arith, head-near h e, within .rules, rules-near h (within .roles) (h .rules) (h .start) end f)
+      omega (arith, head-near h e, within .rules, rules-near h (within .roles) 0 (h .rules) (h .start) end f)
 
 -- an accepted rule file has at most so many bytes
 pub accepted-short : (s : List ℕ) (h : Head) → Bytes s → checkRules s ≡ gives h → length s ≤ longest
@@ -114,37 +120,41 @@ module _ (s t : List ℕ) (n : ℕ) (agree : take n s ≡ take n t) (bytes : Byt
   same-head : 5 ≤ n → headOf s ≡ headOf t
   unfolding headOf
   same-head h =
-      rw (← (same-count s t n agree 0 (omega arith) mostConcepts 0))
+      rw (← (same-tested s t n agree 0 (omega arith) (atMost mostConcepts) 4 0))
       (then-same (countAt s 0 mostConcepts 0) _ _
       (λ c e.
       let first = after-count s bytes 0 mostConcepts c (omega arith) e in
-      rw (← (same-count s t n agree (c .next) (omega arith) mostRoles 0))
+      rw (← (same-tested s t n agree (c .next) (omega arith) (atMost mostRoles) 4 0))
       (then-same (countAt s (c .next) mostRoles 0) _ _
       (λ q f.
       let second = after-count s bytes (c .next) mostRoles q (omega arith) f in
-      rw (same-count s t n agree (q .next) (omega arith) mostRules 0)))))
+      rw (same-tested s t n agree (q .next) (omega arith) (atMost mostRules) 4 0)))))
 
   module _ (h : Head) (few : h .roles ≤ mostRoles) where
     same-rule : (at : ℕ) → at + 5 ≤ n → ruleAt h s at ≡ ruleAt h t at
     unfolding ruleAt
     same-rule at k =
-        rw (← (same-code s t n agree at (omega arith) (λ kind. leb kind lastKind) 0))
-        (then-same (codeAt s at (λ kind. leb kind lastKind) 0) _ _
+        rw (← (same-tested s t n agree at (omega arith) (atMost lastKind) 11 0))
+        (then-same (kindAt s at) _ _
         (λ kind e.
         let first = after-kind s bytes at kind e in
-        rw (← (same-code s t n agree (kind .next) (omega arith) (codeDeclared h (kind .value)) 0))
+        rw (← (same-tested s t n agree (kind .next) (omega arith) (codeDeclared h (kind .value)) 5 0))
         (then-same (codeAt s (kind .next) (codeDeclared h (kind .value)) 0) _ _
         (λ x f.
         let second = after-code s bytes h few (kind .value) (kind .next) x f in
-        rw (same-code s t n agree (x .next) (omega arith) (codeDeclared h (kind .value)) 0)))))
+        rw (same-tested s t n agree (x .next) (omega arith) (codeDeclared h (kind .value)) 5 0)))))
 
-    same-rules : (m at : ℕ) → at + 3 * m + 2 ≤ n → rulesFrom h s m at ≡ rulesFrom h t m at
-    unfolding rulesFrom
-    same-rules zero at k = refl
-    same-rules (suc m) at k =
-        rw (← (same-rule at (omega arith)))
-        (then-same (ruleAt h s at) _ _
-        (λ r e. same-rules m (r .next) (omega (arith, rule-near s bytes h few at r e))))
+    same-next : (at : ℕ) → at + 5 ≤ n → nextRule h s at ≡ nextRule h t at
+    unfolding nextRule
+    same-next at fits = rw (same-rule at fits)
+
+    same-rules : (k m at : ℕ) → at + 3 * m + 2 ≤ n → itemsFrom (nextRule h s) k m at ≡ itemsFrom (nextRule h t) k m at
+    unfolding itemsFrom
+    same-rules k zero at fits = refl
+    same-rules k (suc m) at fits =
+        rw (← (same-next at (omega arith)))
+        (then-same (about k (nextRule h s at)) _ _
+        (λ next e. same-rules (k + 1) m next (omega (arith, next-near s bytes h few at next (about-given k (nextRule h s at) e)))))
 
 -- a longer one's answer is that of its first 1,542 bytes
 module _ (s t : List ℕ) (long-s : longest < length s) (long-t : longest < length t) where
@@ -160,6 +170,6 @@ module _ (s t : List ℕ) (long-s : longest < length s) (long-t : longest < leng
       (λ h e.
       let within = head-within s h e in
       let near = head-near s bytes h e in
-      rw (← (same-rules s t (longest + 2) agree bytes h (within .roles) (h .rules) (h .start) (omega (arith, within .rules))))
+      rw (← (same-rules s t (longest + 2) agree bytes h (within .roles) 0 (h .rules) (h .start) (omega (arith, within .rules))))
       (then-same (rulesFrom h s (h .rules) (h .start)) _ _
       (λ end f. after-both h end (walk-near s bytes h end e f)))))

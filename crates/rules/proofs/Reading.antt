@@ -3,10 +3,9 @@ use Prim.Native.Nat.{ℕ, _-_, _≤_, _<_}
 use mathlib.Core.Path.{_≡_, sym, ap, _∙_}
 use mathlib.Core.Bool.{Bool, true, false}
 use mathlib.Core.List.{List}
-use lib.Dec.{leb}
 use borrow.Author.Tests.{le-leb, lt-leb, eq-eqb, ne-eqb}
 use borrow.Author.Needs.{needs}
-use Rattle.number.specs.Answer.{Answer, Read, refusal}
+use Rattle.number.specs.Answer.{Answer, Read, refusal, noRefusal}
 use Rattle.number.specs.Answer.Answer.{gives, refuses}
 use Rattle.number.specs.Number.{numberAt}
 use Rattle.number.specs.Told.{told, refusalIn}
@@ -15,12 +14,12 @@ use Rattle.number.specs.declared.read.Num.{Num}
 use Rattle.number.specs.declared.read.Num.the-variants.{Value, Refused}
 use Rattle.site.specs.Codes.{conceptDeclared, roleDeclared, ruleOf}
 use Rattle.site.specs.Items.{countAt, codeAt}
-use Rattle.site.specs.Limits.{mostNumber, mostConcepts, mostRoles, mostRules, lastKind, functionalKind}
+use Rattle.site.specs.Limits.{mostNumber, mostConcepts, mostRoles, mostRules, functionalKind}
 use Rattle.site.specs.Told.{ruleTold}
 use Rattle.site.specs.declared.nodes.Declared.{Declared}
 use Rattle.site.specs.declared.rule.Rule.{Rule}
-use Rattle.site.proofs.OfItems.{code-refused, code-known, code-unknown}
-use Rattle.rules.specs.RuleFile.{headOf, codeDeclared, ruleAt}
+use Rattle.site.proofs.OfItems.{tested-refused, tested-passes, tested-fails}
+use Rattle.rules.specs.RuleFile.{headOf, codeDeclared, kindAt, ruleAt}
 use Rattle.rules.specs.Told.{headTold, ruleReadTold, ruleReadRefusal}
 use Rattle.rules.specs.declared.head.Head.{Head}
 use Rattle.rules.specs.declared.head.HeadRead.the-variants.{Read as HeadIs, Refused as HeadRefused}
@@ -28,7 +27,7 @@ use Rattle.rules.specs.declared.read.RuleRead.{RuleRead}
 use Rattle.rules.specs.declared.read.RuleRead.the-variants.{Read as RuleIs, Refused as RuleRefused}
 
 -- a rule has no refusal
-pub rule-no-refusal : (e : RuleRead) (r : Rule) (next : ℕ) → e ≡ RuleIs r next → refusal 0 0 0 ≡ ruleReadRefusal e
+pub rule-no-refusal : (e : RuleRead) (r : Rule) (next : ℕ) → e ≡ RuleIs r next → noRefusal ≡ ruleReadRefusal e
 rule-no-refusal e r next is = rw is
 
 -- which codes a kind has
@@ -41,27 +40,17 @@ module _ (h : Head) (kind code : ℕ) (r : Bool) (d : Declared) (is : d ≡ reco
   unfolding codeDeclared
   of-roles h e = rw (lt-leb kind 1 h) (rw is at e)
 
--- a kind
-module _ (s : List ℕ) (at : ℕ) (n : Num) (is : told n ≡ numberAt s at mostNumber 0) where
-  pub kind-refused : (r : Refusal) → n ≡ Refused r → told n ≡ codeAt s at (λ kind. leb kind lastKind) 0
-  kind-refused r e = code-refused s at 0 n is r e (λ kind. leb kind lastKind)
+-- a code
+module _ (s : List ℕ) (at : ℕ) (n : Num) (is : told n ≡ numberAt s at mostNumber 0) (h : Head) (kind : ℕ) where
+  module _ (v next : ℕ) (read : n ≡ Value v next) (known : Bool) (has : known ≡ codeDeclared h kind v) where
+    pub code-known : known ≡ true → gives (record { value = v; next = next }) ≡ codeAt s at (codeDeclared h kind) 0
+    code-known e = tested-passes s at 0 n is v next read (codeDeclared h kind) 5 (sym has ∙ e)
 
-  module _ (v next : ℕ) (read : n ≡ Value v next) where
-    pub kind-known : v ≤ lastKind → gives (record { value = v; next = next }) ≡ codeAt s at (λ kind. leb kind lastKind) 0
-    kind-known h = code-known s at 0 n is v next read (λ kind. leb kind lastKind) (le-leb v lastKind h)
+    pub code-unknown : known ≡ false → refuses (refusal 5 0 at) ≡ codeAt s at (codeDeclared h kind) 0
+    code-unknown e = tested-fails s at 0 n is v next read (codeDeclared h kind) 5 (sym has ∙ e)
 
-    pub kind-unknown : lastKind < v → (u : Num) → u ≡ Refused (refusal 5 0 at) → told u ≡ codeAt s at (λ kind. leb kind lastKind) 0
-    kind-unknown h u e = ap told e ∙ code-unknown s at 0 n is v next read (λ kind. leb kind lastKind) (lt-leb v lastKind h)
-
-    module _ (h : Head) (kind : ℕ) (known : Bool) (has : known ≡ codeDeclared h kind v) where
-      pub rule-code-known : known ≡ true → gives (record { value = v; next = next }) ≡ codeAt s at (codeDeclared h kind) 0
-      rule-code-known e = code-known s at 0 n is v next read (codeDeclared h kind) (sym has ∙ e)
-
-      pub rule-code-unknown : known ≡ false → (u : Num) → u ≡ Refused (refusal 5 0 at) → told u ≡ codeAt s at (codeDeclared h kind) 0
-      rule-code-unknown e u f = ap told f ∙ code-unknown s at 0 n is v next read (codeDeclared h kind) (sym has ∙ e)
-
-  pub rule-code-refused : (r : Refusal) → n ≡ Refused r → (h : Head) (kind : ℕ) → told n ≡ codeAt s at (codeDeclared h kind) 0
-  rule-code-refused r e h kind = code-refused s at 0 n is r e (codeDeclared h kind)
+  pub code-refused : (r : Refusal) → n ≡ Refused r → told n ≡ codeAt s at (codeDeclared h kind) 0
+  code-refused r e = tested-refused s at 0 n is r e (codeDeclared h kind) 5
 
 -- an answer that refused hands its refusal on
 stops : {n : Num} {u r : Refusal} {a : Answer (Read ℕ)} → told n ≡ a → n ≡ Refused r → u ≡ refusalIn n → a ≡ refuses u
@@ -92,7 +81,7 @@ module _ (s : List ℕ) (n₁ : Num) (is₁ : told n₁ ≡ countAt s 0 mostConc
       head-read v₃ start e₃ = rw (goes is₁ e₁, goes is₂ e₂, goes is₃ e₃)
 
 -- a rule's kind and codes
-module _ (h : Head) (s : List ℕ) (at : ℕ) (n₁ : Num) (is₁ : told n₁ ≡ codeAt s at (λ kind. leb kind lastKind) 0) where
+module _ (h : Head) (s : List ℕ) (at : ℕ) (n₁ : Num) (is₁ : told n₁ ≡ kindAt s at) where
   pub rule-1 : (r u : Refusal) → n₁ ≡ Refused r → u ≡ refusalIn n₁ → ruleReadTold (RuleRefused u) ≡ ruleAt h s at
   unfolding ruleAt
   rule-1 r u e k = rw (stops is₁ e k)
@@ -117,4 +106,4 @@ module _ (h : Head) (s : List ℕ) (at : ℕ) (n₁ : Num) (is₁ : told n₁ �
         rule-read y next e₃ rule e = rw (goes is₁ e₁, goes is₂ e₂, ne-eqb kind functionalKind two, goes is₃ e₃, e)
 
 pub ruleset reading =
-    (rule-no-refusal, of-concepts, of-roles, kind-refused, kind-known, kind-unknown, rule-code-known, rule-code-unknown, rule-code-refused, head-1, head-2, head-3, head-read, rule-1, rule-2, rule-functional, rule-3, rule-read, needs)
+    (rule-no-refusal, of-concepts, of-roles, code-known, code-unknown, code-refused, head-1, head-2, head-3, head-read, rule-1, rule-2, rule-functional, rule-3, rule-read, needs)

@@ -1,3 +1,4 @@
+pub mod Faults
 pub mod Lawful
 pub mod RuleFile
 pub mod Told

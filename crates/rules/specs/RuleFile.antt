@@ -3,14 +3,14 @@ use Prim.Native.Nat.{ℕ, zero, suc}
 use mathlib.Core.Bool.{Bool, false, cond}
 use mathlib.Core.List.{List, [], _∷_}
 use lib.Dec.{leb, eqb}
-use Rattle.number.specs.Answer.{Answer, Read, refusal, _then_}
+use Rattle.number.specs.Answer.{Answer, Read, refusal, over, _then_}
 use Rattle.number.specs.Answer.Answer.{gives, refuses}
 use Rattle.site.specs.Kinds.{Rule, Site, roleIn}
 use Rattle.site.specs.Kinds.Rule.{included, disjoint, roleIncluded, roleDisjoint, functional}
 use Rattle.site.specs.Codes.{conceptDeclared, roleDeclared, ruleOf}
 use Rattle.site.specs.Limits.{mostConcepts, mostRoles, mostRules, lastKind, functionalKind}
 use Rattle.site.specs.Lists.{any}
-use Rattle.site.specs.Items.{countAt, codeAt, endAt, onward}
+use Rattle.site.specs.Items.{testedAt, atMost, countAt, codeAt, itemsFrom, endAt, onward}
 use Rattle.rules.specs.declared.head.Head.{Head}
 
 -- "Rule file: number of concepts (0 to 64), of roles (0 to 32), of rules (0 to 512), then the rules."
@@ -25,20 +25,27 @@ headOf s =
 unfoldable pub codeDeclared : Head → ℕ → ℕ → Bool
 codeDeclared h kind code = cond (leb kind 1) (conceptDeclared (h .concepts) (h .roles) code) (roleDeclared (h .roles) code)
 
+-- refusal 11: "unknown rule kind", a kind over 4
+abbrev pub kindAt : List ℕ → ℕ → Answer (Read ℕ)
+kindAt s at = testedAt s at (atMost lastKind) 11 0
+
 -- "A rule is its kind, then its codes": two, and one for kind 4
 unfoldable pub ruleAt : Head → List ℕ → ℕ → Answer (Read Rule)
 ruleAt h s at =
-    codeAt s at (λ kind. leb kind lastKind) 0 then λ kind.
+    kindAt s at then λ kind.
     codeAt s (kind .next) (codeDeclared h (kind .value)) 0 then λ x.
     cond (eqb (kind .value) functionalKind)
     (gives (record { value = ruleOf (kind .value) (x .value) 0; next = x .next }))
     (codeAt s (x .next) (codeDeclared h (kind .value)) 0 then λ y.
     gives (record { value = ruleOf (kind .value) (x .value) (y .value); next = y .next }))
 
--- so many rules from a place on: the place after them
-unfoldable pub rulesFrom : Head → List ℕ → ℕ → ℕ → Answer ℕ
-rulesFrom h s zero at = gives at
-rulesFrom h s (suc n) at = ruleAt h s at then λ r. rulesFrom h s n (r .next)
+-- the place after a rule
+unfoldable pub nextRule : Head → List ℕ → ℕ → Answer ℕ
+nextRule h s at = over (λ r. r .next) (ruleAt h s at)
+
+-- so many rules from a place on, numbered from 0: the place after them
+abbrev pub rulesFrom : Head → List ℕ → ℕ → ℕ → Answer ℕ
+rulesFrom h s n at = itemsFrom (nextRule h s) 0 n at
 
 -- so many rules from a place on, as far as they can be read
 unfoldable pub rulesIn : Head → List ℕ → ℕ → ℕ → List Rule
@@ -62,10 +69,12 @@ broken rules (roleIncluded p q) = false
 broken rules (roleDisjoint p q) = false
 
 -- refusal 6: "a functional role stands on the right of a kind 2 rule", at "the kind of the first functional rule so broken"
-unfoldable pub unbroken : Head → List ℕ → List Rule → ℕ → ℕ → Answer ℕ
-unbroken h s rules zero at = gives at
-unbroken h s rules (suc n) at =
-    ruleAt h s at then λ r. cond (broken rules (r .value)) (refuses (refusal 6 0 at)) (unbroken h s rules n (r .next))
+unfoldable pub nextUnbroken : Head → List ℕ → List Rule → ℕ → Answer ℕ
+nextUnbroken h s rules at = ruleAt h s at then λ r. cond (broken rules (r .value)) (refuses (refusal 6 0 at)) (gives (r .next))
+
+-- so many rules from a place on, none of them broken
+abbrev pub unbroken : Head → List ℕ → List Rule → ℕ → ℕ → Answer ℕ
+unbroken h s rules n at = itemsFrom (nextUnbroken h s rules) 0 n at
 
 -- "After the last item 7, then 6."
 unfoldable pub afterRules : List ℕ → Head → ℕ → Answer Head

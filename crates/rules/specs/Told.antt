@@ -5,7 +5,7 @@ use mathlib.Core.Bool.{Bool, false, _&&_}
 use mathlib.Core.List.{List}
 use lib.ListN.{getD, length}
 use lib.Dec.{ltb}
-use Rattle.number.specs.Answer.{Answer, Read, refusal}
+use Rattle.number.specs.Answer.{Answer, Read, noRefusal}
 use Rattle.number.specs.Answer.Answer.{gives, refuses}
 use Rattle.number.specs.declared.refusal.Refusal.{Refusal}
 use Rattle.site.specs.Kinds.{Rule, roleIn}
@@ -34,7 +34,7 @@ ruleReadTold (RuleRefused r) = refuses r
 
 -- the refusal in it; there is none in a rule
 abbrev pub ruleReadRefusal : RuleRead → Refusal
-ruleReadRefusal (RuleIs rule next) = refusal 0 0 0
+ruleReadRefusal (RuleIs rule next) = noRefusal
 ruleReadRefusal (RuleRefused r) = r
 
 -- an accepted rule file's head, or the refusal

@@ -36,7 +36,7 @@ fn rules_end(s: &[u8], head: Head, count: u32, start: usize) -> End
     while 0 < left {
         let got = rule_at(s, head, at);
         let RuleRead::Read(_, next) = got else {
-            return End::Refused(got.refusal());
+            return End::Refused(got.refusal().of_item(count - left));
         };
         at = next;
         left -= 1;
@@ -122,13 +122,14 @@ fn check_functional(s: &[u8], head: Head, right: [bool; RIGHTS]) -> End
     while 0 < left {
         let got = rule_at(s, head, at);
         let RuleRead::Read(rule, next) = got else {
-            return End::Refused(got.refusal());
+            return End::Refused(got.refusal().of_item(head.rules - left));
         };
         if is_broken(right, rule) {
             return End::Refused(Refusal {
                 number: Refusal::BROKEN,
                 side: Refusal::RULES,
                 place: at,
+                item: head.rules - left,
             });
         }
         at = next;

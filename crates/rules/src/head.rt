@@ -8,7 +8,7 @@ use site::Concept;
 use site::Declared;
 use site::Role;
 use site::Rule;
-use site::read_count;
+use site::read_within;
 
 pub struct Head {
     pub concepts: u32,
@@ -48,15 +48,15 @@ pub enum HeadRead {
 pub fn read_head(s: &[u8]) -> HeadRead
     ensures { λ r. ⌜ headTold r ≡ headOf (now (s .entry)) ⌝ }
 {
-    let first = read_count(s, 0, Concept::COUNT, Refusal::RULES);
+    let first = read_within(s, 0, Concept::COUNT, Refusal::COUNT, Refusal::RULES);
     let Num::Value(concepts, p) = first else {
         return HeadRead::Refused(first.refusal());
     };
-    let second = read_count(s, p, Role::COUNT, Refusal::RULES);
+    let second = read_within(s, p, Role::COUNT, Refusal::COUNT, Refusal::RULES);
     let Num::Value(roles, q) = second else {
         return HeadRead::Refused(second.refusal());
     };
-    let third = read_count(s, q, Rule::MOST, Refusal::RULES);
+    let third = read_within(s, q, Rule::MOST, Refusal::COUNT, Refusal::RULES);
     let Num::Value(rules, start) = third else {
         return HeadRead::Refused(third.refusal());
     };

@@ -1,9 +1,7 @@
 // Reading one rule at a place.
 ghost use mathlib.Core.Path.{_≡_};
-ghost use lib.Dec.{leb};
 ghost use Rattle.number.specs.Told.{told};
 ghost use Rattle.site.specs.Items.{codeAt};
-ghost use Rattle.site.specs.Limits.{lastKind};
 ghost use Rattle.rules.specs.RuleFile.{codeDeclared, ruleAt};
 ghost use Rattle.rules.specs.Told.{ruleReadTold, ruleReadRefusal};
 use crate::head::Head;
@@ -11,6 +9,7 @@ use number::Num;
 use number::Refusal;
 use number::read_number;
 use site::Rule;
+use site::read_within;
 
 // What reading a rule finds: the rule with the place after it, or the refusal.
 pub enum RuleRead {
@@ -30,30 +29,6 @@ impl RuleRead {
     }
 }
 
-fn unknown(at: usize) -> Num
-    ensures { λ r. ⌜ r ≡ Num.Refused (record { number = 5; side = 0; place = at }) ⌝ }
-{
-    Num::Refused(Refusal {
-        number: Refusal::UNKNOWN,
-        side: Refusal::RULES,
-        place: at,
-    })
-}
-
-// "rule kind over 4"
-fn read_kind(s: &[u8], at: usize) -> Num
-    ensures { λ r. ⌜ told r ≡ codeAt (now (s .entry)) at (λ kind. leb kind lastKind) 0 ⌝ }
-{
-    let got = read_number(s, at, Num::MOST, Refusal::RULES);
-    let Num::Value(kind, _) = got else {
-        return got;
-    };
-    if kind <= Rule::LAST_KIND {
-        return got;
-    }
-    unknown(at)
-}
-
 // "concept or role not declared"
 fn read_code(s: &[u8], head: Head, kind: u32, at: usize) -> Num
     ensures { λ r. ⌜ told r ≡ codeAt (now (s .entry)) at (codeDeclared head kind) 0 ⌝ }
@@ -65,14 +40,19 @@ fn read_code(s: &[u8], head: Head, kind: u32, at: usize) -> Num
     if head.has_code(kind, code) {
         return got;
     }
-    unknown(at)
+    Num::Refused(Refusal {
+        number: Refusal::UNKNOWN,
+        side: Refusal::RULES,
+        place: at,
+        item: Refusal::NO_ITEM,
+    })
 }
 
 // "A rule is its kind, then its codes"
 pub fn rule_at(s: &[u8], head: Head, at: usize) -> RuleRead
     ensures { λ r. ⌜ ruleReadTold r ≡ ruleAt head (now (s .entry)) at ⌝ }
 {
-    let first = read_kind(s, at);
+    let first = read_within(s, at, Rule::LAST_KIND, Refusal::KIND, Refusal::RULES);
     let Num::Value(kind, p) = first else {
         return RuleRead::Refused(first.refusal());
     };

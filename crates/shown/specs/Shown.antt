@@ -1,4 +1,4 @@
--- How C sees an answer: the refusal's number, side and place (number 0: not refused), and zeros in the fields that do not apply.
+-- How C sees an answer: the refusal's number, side, place and item (number 0: not refused), and zeros in the fields that do not apply.
 use Prim.Native.Nat.{ℕ}
 use lib.ListN.{length}
 use Rattle.number.specs.Answer.{Answer}
@@ -23,11 +23,11 @@ use Rattle.shown.specs.declared.shapes.DzyYield.{DzyYield}
 
 -- no refusal
 abbrev pub notRefused : DzyRefusal
-notRefused = record { number = 0; side = 0; place = 0 }
+notRefused = record { number = 0; side = 0; place = 0; item = 0 }
 
--- "A refusal gives number, side (..) and place"
+-- "A refusal gives number, side (..) and place", and "the number of the item there"
 abbrev pub refused : Refusal → DzyRefusal
-refused r = record { number = r .number; side = r .side; place = r .place }
+refused r = record { number = r .number; side = r .side; place = r .place; item = r .item }
 
 -- "Counts: of facts, and of each mark"
 abbrev pub shownCounts : Answer Counts → DzyCounts
@@ -56,7 +56,7 @@ shownLength (refuses r) = record { refused = refused r; length = 0 }
 
 -- an answer over a row of records, as a length
 abbrev pub shownRow : RowAnswer → DzyLength
-shownRow a = record { refused = record { number = a .number; side = a .side; place = a .place }; length = a .length }
+shownRow a = record { refused = record { number = a .number; side = a .side; place = a .place; item = a .item }; length = a .length }
 
 -- a reader's start, and what it yields: found 1 with the fact's record, or found 0 once it is done
 abbrev pub shownStart : Answer ℕ → DzyStart

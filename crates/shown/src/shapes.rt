@@ -4,12 +4,13 @@ ghost use Rattle.shown.specs.Shown.{notRefused, refused};
 use number::Refusal;
 use records::Record;
 
-// A refusal's number, side and place; number 0: not refused.
+// A refusal's number, side, place and item; number 0: not refused.
 #[repr(C)]
 pub struct DzyRefusal {
     pub number: u32,
     pub side: u32,
     pub place: u64,
+    pub item: u32,
 }
 
 #[repr(C)]
@@ -63,6 +64,7 @@ pub fn not_refused() -> DzyRefusal
         number: 0,
         side: 0,
         place: 0,
+        item: 0,
     }
 }
 
@@ -73,5 +75,6 @@ pub fn is_refused(r: Refusal) -> DzyRefusal
         number: r.number,
         side: r.side,
         place: r.place as u64,
+        item: r.item,
     }
 }

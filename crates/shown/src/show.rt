@@ -105,6 +105,7 @@ pub fn show_row(a: RowAnswer) -> DzyLength
             number: a.number,
             side: a.side,
             place: a.place as u64,
+            item: a.item,
         },
         length: a.length as u64,
     }

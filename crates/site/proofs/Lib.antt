@@ -6,3 +6,4 @@ pub mod OfKinds
 pub mod Same
 pub mod There
 pub mod InFile
+pub mod Numbered

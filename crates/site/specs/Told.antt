@@ -1,7 +1,7 @@
 -- What each case of the code's answers and kinds says.
 use Prim.Native.Nat.{ℕ, _<_}
 use mathlib.Core.Path.{_≡_}
-use Rattle.number.specs.Answer.{Answer, refusal}
+use Rattle.number.specs.Answer.{Answer, noRefusal}
 use Rattle.number.specs.Answer.Answer.{gives, refuses}
 use Rattle.number.specs.declared.refusal.Refusal.{Refusal}
 use Rattle.site.specs.Kinds.{Rule as SaidRule}
@@ -27,7 +27,7 @@ endTold (Refused r) = refuses r
 
 -- the refusal in it; there is none in a place
 abbrev pub endRefusal : End → Refusal
-endRefusal (At at) = refusal 0 0 0
+endRefusal (At at) = noRefusal
 endRefusal (Refused r) = r
 
 -- a basic role's code, small enough that more may be added to it

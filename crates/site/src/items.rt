@@ -1,15 +1,15 @@
-// Reading a count and finding the end: what rule files and bundles have in common.
+// Reading a number that may not be over a limit and finding the end: what rule files and bundles have in common.
 ghost use mathlib.Core.Path.{_≡_};
 ghost use Rattle.number.specs.Told.{told};
-ghost use Rattle.site.specs.Items.{countAt, endAt};
+ghost use Rattle.site.specs.Items.{testedAt, atMost, endAt};
 ghost use Rattle.site.specs.Told.{endTold, endRefusal};
 use number::Num;
 use number::Refusal;
 use number::read_number;
 
-// A number that may not be over a limit of its own.
-pub fn read_count(s: &[u8], at: usize, limit: u32, side: u32) -> Num
-    ensures { λ r. ⌜ told r ≡ countAt (now (s .entry)) at limit side ⌝ }
+// A number that may not be over a limit of its own; what is over it is refused by this number.
+pub fn read_within(s: &[u8], at: usize, limit: u32, number: u32, side: u32) -> Num
+    ensures { λ r. ⌜ told r ≡ testedAt (now (s .entry)) at (atMost limit) number side ⌝ }
 {
     let got = read_number(s, at, Num::MOST, side);
     let Num::Value(value, _) = got else {
@@ -19,9 +19,10 @@ pub fn read_count(s: &[u8], at: usize, limit: u32, side: u32) -> Num
         return got;
     }
     Num::Refused(Refusal {
-        number: Refusal::COUNT,
+        number,
         side,
         place: at,
+        item: Refusal::NO_ITEM,
     })
 }
 
@@ -52,6 +53,7 @@ pub fn read_end(s: &[u8], at: usize, side: u32) -> End
             number: Refusal::AFTER,
             side,
             place: at,
+            item: Refusal::NO_ITEM,
         });
     }
     End::At(at)

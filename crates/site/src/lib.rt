@@ -7,8 +7,8 @@ mod rule;
 
 pub use fact::Fact;
 pub use items::End;
-pub use items::read_count;
 pub use items::read_end;
+pub use items::read_within;
 pub use limits::Limits;
 pub use limits::limits_of_kinds;
 pub use nodes::BasicConcept;

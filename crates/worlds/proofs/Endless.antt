@@ -13,10 +13,10 @@ use Rattle.site.specs.Kinds.BasicConcept.{named, some}
 use Rattle.site.specs.Kinds.Rule.{included, disjoint, functional}
 use Rattle.site.specs.Codes.{roleOf, conceptOf, conceptDeclared, predicateDeclared}
 use Rattle.site.specs.Lists.{any}
-use Rattle.site.specs.Items.{countAt, codeAt, endAt}
+use Rattle.site.specs.Items.{testedAt, atMost, itemsFrom, endAt}
 use Rattle.rules.specs.declared.head.Head.{Head}
-use Rattle.rules.specs.RuleFile.{headOf, codeDeclared, ruleAt, rulesFrom, rulesIn, unbroken, afterRules, checkRules, siteOf}
-use Rattle.bundle.specs.Bundle.{factAt, factsFrom, factsIn, checkBundle, readBundle}
+use Rattle.rules.specs.RuleFile.{headOf, codeDeclared, ruleAt, nextRule, rulesIn, nextUnbroken, afterRules, checkRules, siteOf}
+use Rattle.bundle.specs.Bundle.{factAt, nextFact, factsIn, checkBundle, readBundle}
 use Rattle.clashes.specs.Types.{itself}
 use Rattle.worlds.specs.Worlds.{World, Is, Obeys, Holds, WorldOf, Consistent}
 
@@ -49,15 +49,15 @@ abbrev pub head : Head
 head = record { concepts = 1; roles = 1; rules = 4; start = 3 }
 
 pub rules-accepted : checkRules endlessFile ≡ gives head
-unfolding formOf second third numberAt roleOf conceptOf conceptDeclared any countAt codeAt endAt headOf codeDeclared ruleAt rulesFrom rulesIn unbroken afterRules checkRules
+unfolding formOf second third numberAt roleOf conceptOf conceptDeclared any testedAt atMost itemsFrom endAt headOf codeDeclared ruleAt nextRule rulesIn nextUnbroken afterRules checkRules
 rules-accepted = refl
 
 pub rules-read : siteOf endlessFile head ≡ endless
-unfolding formOf second third numberAt roleOf conceptOf conceptDeclared codeAt codeDeclared ruleAt rulesIn siteOf
+unfolding formOf second third numberAt roleOf conceptOf conceptDeclared testedAt atMost codeDeclared ruleAt rulesIn siteOf
 rules-read = refl
 
 pub bundle-accepted : readBundle head rootBundle ≡ gives root
-unfolding formOf second third numberAt predicateDeclared countAt codeAt endAt factAt factsFrom factsIn checkBundle readBundle
+unfolding formOf second third numberAt predicateDeclared testedAt atMost itemsFrom endAt factAt nextFact factsIn checkBundle readBundle
 bundle-accepted = refl
 
 -- the natural numbers as a world: 0 is Root, and the next of n is suc n

@@ -17,10 +17,10 @@ use Rattle.site.specs.Kinds.Rule.{included, disjoint, roleDisjoint, functional}
 use Rattle.site.specs.Codes.{roleOf, conceptOf, conceptDeclared, predicateDeclared}
 use Rattle.site.specs.Limits.{mostThing}
 use Rattle.site.specs.Lists.{upTo, any, keep, each}
-use Rattle.site.specs.Items.{countAt, codeAt, endAt}
+use Rattle.site.specs.Items.{testedAt, atMost, itemsFrom, endAt}
 use Rattle.rules.specs.declared.head.Head.{Head}
-use Rattle.rules.specs.RuleFile.{headOf, codeDeclared, ruleAt, rulesFrom, rulesIn, unbroken, afterRules, checkRules, siteOf}
-use Rattle.bundle.specs.Bundle.{factAt, factsFrom, factsIn, checkBundle, readBundle}
+use Rattle.rules.specs.RuleFile.{headOf, codeDeclared, ruleAt, nextRule, rulesIn, nextUnbroken, afterRules, checkRules, siteOf}
+use Rattle.bundle.specs.Bundle.{factAt, nextFact, factsIn, checkBundle, readBundle}
 use Rattle.steps.specs.Tables.{rolesOf, nodesOf, arrow, mates, find, rowsOf, looked, through, closure, apart, empty, excludes, functionalIn, excludedRows, followsFrom, followsOf}
 use Rattle.clashes.specs.Types.{itself, typesOf}
 use Rattle.clashes.specs.Marks.{jar, split, meet, alone, contradict, clash, mark, marked, kept}
@@ -63,15 +63,15 @@ abbrev pub camera : List Fact
 camera = fact 1 9 0 ∷ []
 
 pub rules-accepted : checkRules R ≡ gives head
-unfolding formOf second third numberAt roleOf conceptOf conceptDeclared any countAt codeAt endAt headOf codeDeclared ruleAt rulesFrom rulesIn unbroken afterRules checkRules
+unfolding formOf second third numberAt roleOf conceptOf conceptDeclared any testedAt atMost itemsFrom endAt headOf codeDeclared ruleAt nextRule rulesIn nextUnbroken afterRules checkRules
 rules-accepted = refl
 
 pub rules-read : siteOf R head ≡ worked
-unfolding formOf second third numberAt roleOf conceptOf conceptDeclared codeAt codeDeclared ruleAt rulesIn siteOf
+unfolding formOf second third numberAt roleOf conceptOf conceptDeclared testedAt atMost codeDeclared ruleAt rulesIn siteOf
 rules-read = refl
 
 pub bundle-accepted : readBundle head F ≡ gives reported
-unfolding formOf second third numberAt predicateDeclared countAt codeAt endAt factAt factsFrom factsIn checkBundle readBundle
+unfolding formOf second third numberAt predicateDeclared testedAt atMost itemsFrom endAt factAt nextFact factsIn checkBundle readBundle
 bundle-accepted = refl
 
 pub facts-kept : kept itself (followsOf worked) reported ≡ camera

@@ -8,16 +8,16 @@ use mathlib.Core.List.{List, [], _∷_, _++_, map}
 use lib.ListN.{length, replicate, length-replicate}
 use native.Mathlib.Omega.{arith}
 use borrow.Author.Tests.{lt-ltb, le-leb}
-use Rattle.number.specs.Answer.{Answer, refusal}
+use Rattle.number.specs.Answer.{Answer, refusal, ofItem}
 use Rattle.number.specs.Answer.Answer.{gives, refuses}
 use Rattle.number.specs.Number.{third, second, formOf, numberAt, bytesOf}
 use Rattle.site.specs.declared.fact.Fact.{Fact}
 use Rattle.site.specs.Codes.{predicateDeclared}
-use Rattle.site.specs.Items.{countAt, codeAt, endAt}
+use Rattle.site.specs.Items.{testedAt, atMost, itemsFrom, endAt}
 use Rattle.site.specs.Limits.{mostThing}
 use Rattle.site.specs.Lists.{each}
 use Rattle.rules.specs.declared.head.Head.{Head}
-use Rattle.bundle.specs.Bundle.{Last, ascends, factAt, factsFrom, factsIn, checkBundle, readBundle, factBytes, bundleOf}
+use Rattle.bundle.specs.Bundle.{Last, ascends, factAt, nextFact, factsIn, checkBundle, readBundle, factBytes, bundleOf}
 use Rattle.bundle.specs.Bundle.Last.{none, after}
 use Rattle.bundle.specs.Lawful.{LawfulFrom}
 use Rattle.bundle.specs.Lawful.LawfulFrom.{done, next}
@@ -56,7 +56,7 @@ facts-4096 =
     written-read (with 1 0) (omega arith) (row 0 4096) (record { few = omega arith; lawful = row-lawful 4096 0 none (omega arith) refl })
 
 pub facts-4097 : readBundle (with 1 0) (bundleOf (row 0 4097)) ≡ refuses (refusal 4 1 0)
-unfolding bundleOf bytesOf numberAt formOf second countAt checkBundle readBundle
+unfolding bundleOf bytesOf numberAt formOf second testedAt atMost checkBundle readBundle
 facts-4097 = rw (row-length 0 4097)
 
 -- under some rules, bytes, and what is expected
@@ -68,8 +68,13 @@ pub record Case : Type 0 where
 abbrev pub is : Head → List ℕ → List Fact → Case
 is head bytes facts = record { head = head; bytes = bytes; expected = gives facts }
 
+-- refused in the header or after the last fact
 abbrev pub refused : Head → List ℕ → ℕ → ℕ → Case
 refused head bytes number place = record { head = head; bytes = bytes; expected = refuses (refusal number 1 place) }
+
+-- refused in the first fact
+abbrev pub refusedFirst : Head → List ℕ → ℕ → ℕ → Case
+refusedFirst head bytes number place = record { head = head; bytes = bytes; expected = refuses (ofItem 0 (refusal number 1 place)) }
 
 abbrev pub many : List Case
 many = is (with 1 0) (bundleOf (row 0 4096)) (row 0 4096) ∷ refused (with 1 0) (bundleOf (row 0 4097)) 4 0 ∷ []
@@ -77,35 +82,35 @@ many = is (with 1 0) (bundleOf (row 0 4096)) (row 0 4096) ∷ refused (with 1 0)
 abbrev pub few : List Case
 few =
     -- "number of facts (0 to 4,096)": 4,096 begin, and 4,097 do not
-    refused (with 1 0) (0x80 ∷ 0x20 ∷ []) 1 2
+    refusedFirst (with 1 0) (0x80 ∷ 0x20 ∷ []) 1 2
     ∷ refused (with 1 0) (0x81 ∷ 0x20 ∷ []) 4 0
     ∷ refused (with 1 0) (0x80 ∷ 0x80 ∷ 0x04 ∷ []) 3 0
     -- "i for concept i": the last one of 64, and of 63; it has no object
     ∷ is (with 64 0) (0x01 ∷ 0x3F ∷ 0x07 ∷ []) (fact 63 7 0 ∷ [])
     ∷ is (with 63 0) (0x01 ∷ 0x3E ∷ 0x07 ∷ []) (fact 62 7 0 ∷ [])
-    ∷ refused (with 63 32) (0x01 ∷ 0x3F ∷ 0x07 ∷ []) 5 1
+    ∷ refusedFirst (with 63 32) (0x01 ∷ 0x3F ∷ 0x07 ∷ []) 5 1
     ∷ refused (with 64 32) (0x01 ∷ 0x3F ∷ 0x07 ∷ 0x08 ∷ []) 7 3
     -- "64+j for role j": the first and the last, past them, and over every number; each has an object
     ∷ is (with 0 1) (0x01 ∷ 0x40 ∷ 0x07 ∷ 0x08 ∷ []) (fact 64 7 8 ∷ [])
-    ∷ refused (with 0 1) (0x01 ∷ 0x40 ∷ 0x07 ∷ []) 1 3
-    ∷ refused (with 64 0) (0x01 ∷ 0x40 ∷ 0x07 ∷ 0x08 ∷ []) 5 1
+    ∷ refusedFirst (with 0 1) (0x01 ∷ 0x40 ∷ 0x07 ∷ []) 1 3
+    ∷ refusedFirst (with 64 0) (0x01 ∷ 0x40 ∷ 0x07 ∷ 0x08 ∷ []) 5 1
     ∷ is (with 0 32) (0x01 ∷ 0x5F ∷ 0x07 ∷ 0x08 ∷ []) (fact 95 7 8 ∷ [])
-    ∷ refused (with 64 31) (0x01 ∷ 0x5F ∷ 0x07 ∷ 0x08 ∷ []) 5 1
-    ∷ refused (with 64 32) (0x01 ∷ 0x60 ∷ 0x07 ∷ 0x08 ∷ []) 5 1
-    ∷ refused (with 64 32) (0x01 ∷ 0xFF ∷ 0xFF ∷ 0x03 ∷ []) 5 1
-    ∷ refused (with 64 32) (0x01 ∷ 0x80 ∷ 0x80 ∷ 0x04 ∷ []) 3 1
+    ∷ refusedFirst (with 64 31) (0x01 ∷ 0x5F ∷ 0x07 ∷ 0x08 ∷ []) 5 1
+    ∷ refusedFirst (with 64 32) (0x01 ∷ 0x60 ∷ 0x07 ∷ 0x08 ∷ []) 5 1
+    ∷ refusedFirst (with 64 32) (0x01 ∷ 0xFF ∷ 0xFF ∷ 0x03 ∷ []) 5 1
+    ∷ refusedFirst (with 64 32) (0x01 ∷ 0x80 ∷ 0x80 ∷ 0x04 ∷ []) 3 1
     -- "A number has at most three bytes and is at most 65,535": a subject and an object
     ∷ is (with 1 0) (0x01 ∷ 0x00 ∷ 0xFF ∷ 0xFF ∷ 0x03 ∷ []) (fact 0 65535 0 ∷ [])
-    ∷ refused (with 1 0) (0x01 ∷ 0x00 ∷ 0x80 ∷ 0x80 ∷ 0x04 ∷ []) 3 2
-    ∷ refused (with 1 0) (0x01 ∷ 0x00 ∷ 0x80 ∷ 0x80 ∷ 0x80 ∷ []) 3 2
-    ∷ refused (with 1 0) (0x01 ∷ 0x00 ∷ 0x80 ∷ 0x80 ∷ 0x00 ∷ []) 2 2
-    ∷ refused (with 1 0) (0x01 ∷ 0x00 ∷ 0x80 ∷ 0x80 ∷ []) 1 2
+    ∷ refusedFirst (with 1 0) (0x01 ∷ 0x00 ∷ 0x80 ∷ 0x80 ∷ 0x04 ∷ []) 3 2
+    ∷ refusedFirst (with 1 0) (0x01 ∷ 0x00 ∷ 0x80 ∷ 0x80 ∷ 0x80 ∷ []) 3 2
+    ∷ refusedFirst (with 1 0) (0x01 ∷ 0x00 ∷ 0x80 ∷ 0x80 ∷ 0x00 ∷ []) 2 2
+    ∷ refusedFirst (with 1 0) (0x01 ∷ 0x00 ∷ 0x80 ∷ 0x80 ∷ []) 1 2
     ∷ is (with 0 1) (0x01 ∷ 0x40 ∷ 0x07 ∷ 0xFF ∷ 0xFF ∷ 0x03 ∷ []) (fact 64 7 65535 ∷ [])
-    ∷ refused (with 0 1) (0x01 ∷ 0x40 ∷ 0x07 ∷ 0x80 ∷ 0x80 ∷ 0x04 ∷ []) 3 3
+    ∷ refusedFirst (with 0 1) (0x01 ∷ 0x40 ∷ 0x07 ∷ 0x80 ∷ 0x80 ∷ 0x04 ∷ []) 3 3
     ∷ []
 
 small : map (λ c. readBundle (c .head) (c .bytes)) few ≡ map (λ c. c .expected) few
-unfolding numberAt formOf second third countAt codeAt endAt predicateDeclared factAt factsFrom factsIn checkBundle readBundle
+unfolding numberAt formOf second third testedAt atMost itemsFrom endAt predicateDeclared factAt nextFact factsIn checkBundle readBundle
 small = refl
 
 pub bundles-at-limits : map (λ c. readBundle (c .head) (c .bytes)) (many ++ few) ≡ map (λ c. c .expected) (many ++ few)
@@ -135,7 +140,7 @@ records-4097 h room records e = rw e
 pub bad-4097 : (room : ℕ) → planRecords (with 0 0) room (replicate 4097 (fact 0 0 0)) ≡ refuses (refusal 4 2 0)
 bad-4097 room = records-4097 (with 0 0) room (replicate 4097 (fact 0 0 0)) (length-replicate 4097 (fact 0 0 0))
 
--- ---- "each record's predicate (5), object of a concept (5), subject (3), object (3), order (8)", at the record's number; then room (9)
+-- ---- "each record's predicate (5), object of a concept (5), subject (3), object (3), order (8)", the second now 12, at the record's number; then room (9)
 pub record Row : Type 0 where
   pub room : ℕ
   pub records : List Fact
@@ -159,8 +164,8 @@ rows =
     ∷ faulty (fact 65 65536 65536 ∷ []) 5 0
     ∷ faulty (fact 64 7 8 ∷ fact 1 65536 65536 ∷ []) 5 1
     -- an object of a concept
-    ∷ faulty (fact 0 65536 1 ∷ []) 5 0
-    ∷ faulty (fact 64 7 8 ∷ fact 0 65536 65536 ∷ []) 5 1
+    ∷ faulty (fact 0 65536 1 ∷ []) 12 0
+    ∷ faulty (fact 64 7 8 ∷ fact 0 65536 65536 ∷ []) 12 1
     -- a subject
     ∷ faulty (fact 0 65536 0 ∷ []) 3 0
     ∷ faulty (fact 64 65536 65536 ∷ []) 3 0

@@ -48,7 +48,7 @@ module _ (h : Head) (b : Before) (f : Fact) where
     fault-unknown k = rw (le-leb (f .predicate) mostNumber low, ← is-t, k)
 
     module _ (known : not t ≡ false) (u : Bool) (is-u : u ≡ (ofConcept f && not (eqb (f .object) 0))) where
-      pub fault-object : u ≡ true → 5 ≡ faultOf h (lastOf b) f
+      pub fault-object : u ≡ true → 12 ≡ faultOf h (lastOf b) f
       unfolding faultOf recordFault
       fault-object k = rw (le-leb (f .predicate) mostNumber low, ← is-t, known, ← is-u, k)
 

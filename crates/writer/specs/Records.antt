@@ -17,13 +17,14 @@ use Rattle.bundle.specs.Bundle.Last.{none, after}
 unfoldable pub roomFor : ℕ → List ℕ → Answer (List ℕ)
 roomFor room bytes = cond (leb (length bytes) room) (gives bytes) (refuses (refusal 9 2 0))
 
--- "each record's predicate (5), object of a concept (5), subject (3), object (3), order (8)", at the record's number
+-- "each record's predicate (5), object of a concept (5), subject (3), object (3), order (8)", at the record's number; since request 2 the second is
+-- "12 object on a concept record"
 unfoldable pub recordFault : Head → Last → Fact → ℕ
 recordFault h last f =
     cond (not (predicateKnown h (f .predicate)))
     5
     (cond (ofConcept f && not (eqb (f .object) 0))
-    5
+    12
     (cond (not (leb (f .subject) mostThing)) 3 (cond (not (leb (f .object) mostThing)) 3 (cond (not (ascends last f)) 8 0))))
 
 -- so many records after one that came before, the first of them with this number: how many there are, or the first fault

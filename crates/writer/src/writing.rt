@@ -35,7 +35,7 @@ pub struct Writing {
     pub storing: bool,
 }
 
-// "a concept record whose object is not 0"
+// "object on a concept record"
 fn stray_object(fact: Fact) -> bool
     ensures { λ r. ⌜ r ≡ ofConcept fact && not (eqb (fact .object) 0) ⌝ }
 {
@@ -57,7 +57,7 @@ fn fault_of(head: Head, before: Before, fact: Fact) -> u32
         return Refusal::UNKNOWN;
     }
     if stray_object(fact) {
-        return Refusal::UNKNOWN;
+        return Refusal::OBJECT;
     }
     if Num::MOST < fact.subject {
         return Refusal::OVER;
@@ -201,6 +201,7 @@ impl Writing {
                 number: self.fault,
                 side: Refusal::CALL,
                 place: self.place as usize,
+                item: Refusal::NO_ITEM,
             });
         }
         BundleWrote::Written(self.at)

@@ -32,8 +32,13 @@ pub const BYTES_AFTER: u32 = 7;
 pub const NOT_ABOVE: u32 = 8;
 pub const TOO_SHORT: u32 = 9;
 pub const NO_SUCH_FACT: u32 = 10;
+pub const NO_SUCH_KIND: u32 = 11;
+pub const CONCEPT_OBJECT: u32 = 12;
 /// How many refusal numbers there are, 0 for none counted.
-pub const REFUSALS: usize = 11;
+pub const REFUSALS: usize = 13;
+
+/// The item of a refusal that is in no rule and no fact.
+pub const NO_ITEM: u32 = 65_535;
 
 /// The sides of a refusal.
 pub const RULES_SIDE: u32 = 0;

@@ -23,4 +23,5 @@ pub mod relay;
 pub mod site;
 pub mod steps;
 pub mod wrong;
+pub mod wrong_items;
 pub mod wrong_rows;

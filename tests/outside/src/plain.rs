@@ -5,11 +5,12 @@ use crate::codes::*;
 use crate::judge::Question;
 use crate::site::{Fact, Rule, RuleFile};
 
-/// A place in a file, and the side that its refusals name.
+/// A place in a file, and the side and the item that its refusals name.
 struct Reader<'a> {
     bytes: &'a [u8],
     at: usize,
     side: u32,
+    item: u32,
 }
 
 /// A number, and the place of its first byte.
@@ -20,8 +21,13 @@ struct Placed {
 }
 
 impl<'a> Reader<'a> {
+    /// A reader that is in no item.
+    fn at_place(bytes: &'a [u8], side: u32, at: usize) -> Reader<'a> {
+        Reader { bytes, at, side, item: NO_ITEM }
+    }
+
     fn refuse<T>(&self, number: u32, place: usize) -> Result<T, Refusal> {
-        Err(Refusal { number, side: self.side, place: place as u64 })
+        Err(Refusal { number, side: self.side, place: place as u64, item: self.item })
     }
 
     /// The next number, judged as far as a number by itself can be.
@@ -63,7 +69,9 @@ impl<'a> Reader<'a> {
         Ok(self.number_that(COUNT_OVER, |count| count <= most)?.value)
     }
 
-    fn done(&self) -> Result<(), Refusal> {
+    /// Leaves the last item; no byte may follow it.
+    fn done(&mut self) -> Result<(), Refusal> {
+        self.item = NO_ITEM;
         if self.at < self.bytes.len() {
             return self.refuse(BYTES_AFTER, self.at);
         }
@@ -73,26 +81,26 @@ impl<'a> Reader<'a> {
 
 /// The rule file, or its refusal.
 pub fn read_rules(bytes: &[u8]) -> Result<RuleFile, Refusal> {
-    let mut reader = Reader { bytes, at: 0, side: RULES_SIDE };
+    let mut reader = Reader::at_place(bytes, RULES_SIDE, 0);
     let concepts = reader.count(CONCEPTS_MOST)?;
     let roles = reader.count(ROLES_MOST)?;
     let count = reader.count(RULES_MOST)?;
     let mut file = RuleFile { concepts, roles, rules: Vec::new() };
     let mut places = Vec::new();
-    for _ in 0..count {
+    for rule in 0..count {
+        reader.item = rule;
         places.push(reader.at);
         let rule = read_rule(&mut reader, &file)?;
         file.rules.push(rule);
     }
     reader.done()?;
-    match first_broken(&file.rules) {
-        Some(rule) => reader.refuse(FUNCTIONAL_RIGHT, places[rule]),
-        None => Ok(file),
-    }
+    let Some(rule) = first_broken(&file.rules) else { return Ok(file) };
+    reader.item = rule as u32;
+    reader.refuse(FUNCTIONAL_RIGHT, places[rule])
 }
 
 fn read_rule(reader: &mut Reader, file: &RuleFile) -> Result<Rule, Refusal> {
-    let kind = reader.number_that(UNDECLARED, |kind| kind <= FUNCTIONAL)?.value;
+    let kind = reader.number_that(NO_SUCH_KIND, |kind| kind <= FUNCTIONAL)?.value;
     let mut code = || {
         let declared = |code| match kind {
             CONCEPT_INCLUDED | CONCEPTS_DISJOINT => basic_concept_declared(file, u64::from(code)),
@@ -136,10 +144,11 @@ fn stands_right(rule: &Rule, role: u32) -> bool {
 
 /// The facts of a bundle under accepted rules, or its refusal.
 pub fn read_bundle(file: &RuleFile, bytes: &[u8]) -> Result<Vec<Fact>, Refusal> {
-    let mut reader = Reader { bytes, at: 0, side: BUNDLE_SIDE };
+    let mut reader = Reader::at_place(bytes, BUNDLE_SIDE, 0);
     let count = reader.count(FACTS_MOST)?;
     let mut facts: Vec<Fact> = Vec::new();
-    for _ in 0..count {
+    for number in 0..count {
+        reader.item = number;
         let place = reader.at;
         let fact = read_fact(&mut reader, file)?;
         if facts.last().is_some_and(|before| *before >= fact) {
@@ -171,7 +180,7 @@ fn predicate_declared(file: &RuleFile, code: u32) -> bool {
 
 /// The place after the count of an accepted bundle.
 pub fn after_count(bytes: &[u8]) -> Result<usize, Refusal> {
-    let mut reader = Reader { bytes, at: 0, side: BUNDLE_SIDE };
+    let mut reader = Reader::at_place(bytes, BUNDLE_SIDE, 0);
     reader.number()?;
     Ok(reader.at)
 }
@@ -187,7 +196,7 @@ pub fn read_at(bytes: &[u8], at: u64) -> (Result<Found, Refusal>, u64) {
     if at >= bytes.len() as u64 {
         return (Ok(Found::Done), at);
     }
-    let mut reader = Reader { bytes, at: at as usize, side: BUNDLE_SIDE };
+    let mut reader = Reader::at_place(bytes, BUNDLE_SIDE, at as usize);
     match any_fact(&mut reader) {
         Ok(fact) => (Ok(Found::Fact(fact)), reader.at as u64),
         Err(refusal) => (Err(refusal), at),
@@ -210,19 +219,19 @@ pub fn check_row(file: &RuleFile, row: &[Record]) -> Result<(), Refusal> {
     for (place, &record) in row.iter().enumerate() {
         let before = place.checked_sub(1).map(|before| row[before]);
         if let Some(number) = record_fault(file, record, before) {
-            return Err(Refusal { number, side: CALL_SIDE, place: place as u64 });
+            return Err(Refusal { number, side: CALL_SIDE, place: place as u64, item: NO_ITEM });
         }
     }
     Ok(())
 }
 
-/// "each record's predicate (5), object of a concept (5), subject (3), object (3), order (8)"
+/// Each record's predicate (5), object of a concept (12), subject (3), object (3), order (8).
 fn record_fault(file: &RuleFile, record: Record, before: Option<Record>) -> Option<u32> {
     if !predicate_declared(file, record.predicate) {
         return Some(UNDECLARED);
     }
     if record.predicate < ROLE_PREDICATE && record.object != 0 {
-        return Some(UNDECLARED);
+        return Some(CONCEPT_OBJECT);
     }
     if [record.subject, record.object].iter().any(|&thing| u64::from(thing) > NUMBER_MOST) {
         return Some(TOO_LARGE);
@@ -231,7 +240,7 @@ fn record_fault(file: &RuleFile, record: Record, before: Option<Record>) -> Opti
 }
 
 fn refuse_call<T>(number: u32) -> Result<T, Refusal> {
-    Err(Refusal { number, side: CALL_SIDE, place: 0 })
+    Err(Refusal { number, side: CALL_SIDE, place: 0, item: NO_ITEM })
 }
 
 /// The refusal of a fact number.

@@ -19,7 +19,7 @@ const WRITE_RECORDS: u64 = 9;
 const READER_START: u64 = 10;
 const READER_NEXT: u64 = 11;
 /// How many numbers a reply begins with.
-const NUMBERS: usize = 8;
+const NUMBERS: usize = 9;
 /// How many bytes a record has.
 const RECORD: usize = 12;
 
@@ -87,9 +87,10 @@ impl Relay {
             pipes.from.read_exact(&mut two).expect("the relay gives the 16-bit numbers");
             *word = u16::from_le_bytes(two);
         }
-        let [number, side, place, values @ .., intact] = numbers;
+        let [number, side, place, item, values @ .., intact] = numbers;
         assert_eq!(intact, 1, "memory about the lent outputs, or a file, was written to");
-        Reply { refused: Refusal { number: number as u32, side: side as u32, place }, values }
+        let [number, side, item] = [number, side, item].map(|field| field as u32);
+        Reply { refused: Refusal { number, side, place, item }, values }
     }
 
     /// A call that is lent no output.

@@ -6,6 +6,7 @@ use crate::due::ByJudge;
 use crate::judge::{Judge, Judged, Question};
 use crate::site::{Fact, Rule, RuleFile};
 use crate::steps::Steps;
+use crate::wrong_items::Misnames;
 use crate::wrong_rows::Misrows;
 
 /// A fault in the judging of an accepted site.
@@ -139,7 +140,7 @@ impl Miscalls {
 pub const RIGHT: ByJudge<Steps> = ByJudge(Steps { left_out: None });
 
 pub fn short() -> Refusal {
-    Refusal { number: TOO_SHORT, side: CALL_SIDE, place: 0 }
+    Refusal { number: TOO_SHORT, side: CALL_SIDE, place: 0, item: NO_ITEM }
 }
 
 impl Cleaner for Miscalls {
@@ -227,6 +228,9 @@ pub fn every_wrong_version() -> Vec<(String, Box<dyn Cleaner>)> {
         all.push((format!("{fault:?}"), Box::new(fault)));
     }
     for fault in Misrows::ALL {
+        all.push((format!("{fault:?}"), Box::new(fault)));
+    }
+    for fault in Misnames::ALL {
         all.push((format!("{fault:?}"), Box::new(fault)));
     }
     for step in STEPS_THAT_SHOW {

@@ -18,6 +18,7 @@ pub enum Misrows {
     RecordsNarrowed,
     EqualRecordsWritten,
     SubjectBeforePredicate,
+    SubjectBeforeObject,
     OrderBeforeThings,
     EveryFaultAtRecordZero,
     RoomBeforeRecords,
@@ -34,7 +35,7 @@ pub enum Misrows {
 }
 
 impl Misrows {
-    pub const ALL: [Misrows; 23] = [
+    pub const ALL: [Misrows; 24] = [
         Misrows::RowOneSlotTooFar,
         Misrows::RowFilledWhenRefused,
         Misrows::RowNeverFilled,
@@ -45,6 +46,7 @@ impl Misrows {
         Misrows::RecordsNarrowed,
         Misrows::EqualRecordsWritten,
         Misrows::SubjectBeforePredicate,
+        Misrows::SubjectBeforeObject,
         Misrows::OrderBeforeThings,
         Misrows::EveryFaultAtRecordZero,
         Misrows::RoomBeforeRecords,
@@ -77,13 +79,16 @@ impl Misrows {
 
     /// The refusal that this fault gives in the place of the right one.
     fn refused(self, row: &[Record], room: usize, right: Refusal) -> Refusal {
-        let fault = |number: u32, place: usize| Refusal { number, side: CALL_SIDE, place: place as u64 };
+        let fault = |number: u32, place: usize| Refusal { number, place: place as u64, ..right };
         let at = right.place as usize;
         match self {
             _ if right.number == 0 || right.side != CALL_SIDE => right,
             Misrows::EveryFaultAtRecordZero => Refusal { place: 0, ..right },
             Misrows::RoomBeforeRecords if room == 0 => short(),
             Misrows::SubjectBeforePredicate if right.number == UNDECLARED && over(row[at].subject) => {
+                fault(TOO_LARGE, at)
+            }
+            Misrows::SubjectBeforeObject if right.number == CONCEPT_OBJECT && over(row[at].subject) => {
                 fault(TOO_LARGE, at)
             }
             Misrows::OrderBeforeThings if right.number == TOO_LARGE && at > 0 && row[at] <= row[at - 1] => {
@@ -102,11 +107,11 @@ impl Misrows {
             Misrows::ReaderForgetsObject => without_object(bundle, at, ROLE_PREDICATE),
             Misrows::ReaderForgetsObjectOfNoRole => without_object(bundle, at, ROLE_PREDICATE + ROLES_MOST),
             Misrows::ReaderStopsAtNoRole if right.fact.predicate >= ROLE_PREDICATE + ROLES_MOST => {
-                let refused = Refusal { number: UNDECLARED, side: BUNDLE_SIDE, place: at };
+                let refused = Refusal { number: UNDECLARED, side: BUNDLE_SIDE, place: at, item: NO_ITEM };
                 (Yield { refused, ..Yield::default() }, at)
             }
             Misrows::ReaderCutsAtTheEnd if at == end => {
-                let refused = Refusal { number: BYTES_END, side: BUNDLE_SIDE, place: at };
+                let refused = Refusal { number: BYTES_END, side: BUNDLE_SIDE, place: at, item: NO_ITEM };
                 (Yield { refused, ..Yield::default() }, at)
             }
             Misrows::ReaderGoesBackToTheEnd if at > end => (right, end),

@@ -1,12 +1,13 @@
 -- The loop's invariant: what the whole comes to is what the rules that are left come to from here.
 use Rattle.rules.proofs.Checking.{checking}
-use mathlib.Core.Path.{_≡_}
-use Rattle.rules.specs.RuleFile.{rulesIn, unbroken}
+use Rattle.site.proofs.Numbered.{Left}
+use Rattle.rules.specs.RuleFile.{rulesIn, nextUnbroken, unbroken}
 use Rattle.rules.proofs.check.check_functional.Statement.{statement}
 use Rattle.rules.proofs.check.check_functional.Tie as tie
 
 abbrev Inv-loop : tie.InvT-loop
-Inv-loop s head right at₀ left₀ at left = unbroken head s (rulesIn head s (head .rules) (head .start)) (head .rules) (head .start) ≡ unbroken head s (rulesIn head s (head .rules) (head .start)) left at
+Inv-loop s head right at₀ left₀ at left =
+    Left (nextUnbroken head s (rulesIn head s (head .rules) (head .start))) (unbroken head s (rulesIn head s (head .rules) (head .start)) (head .rules) (head .start)) (head .rules) left at
 
 abbrev μ-loop : tie.MeasureT-loop
 μ-loop s head right at₀ left₀ at left = left
@@ -24,6 +25,9 @@ check-functional-spec =
     (λ c κs. search checking)
     (λ c. search checking)
     (λ c κs. search checking)
+    (λ c. search checking)
+    (λ c κs. search checking)
+    (λ c. search checking)
     (λ c. search checking)
     (λ c. search checking)
     (λ c. search checking)

@@ -12,5 +12,4 @@ read-code-spec =
     (λ c. search reading)
     (λ c κs. search reading)
     (λ c. search reading)
-    (λ c κs. search reading)
     (λ c. search reading))

@@ -1,4 +1,4 @@
-//! Sites with every count at its limit and one over, in their longest forms.
+//! Sites with every count at its limit and one over, in their longest forms, and refused far from their start.
 
 use crate::swept::check;
 use outside::cleaner::{Cleaner, Refusal};
@@ -23,13 +23,18 @@ fn accepted(rules: Vec<u8>, bundle: &[u8]) -> Limit {
     Limit { rules, bundle: bundle.to_vec(), refused: Refusal::default() }
 }
 
+/// Refused in the counts of a file, or after its last item: there is no item there.
 fn refused(rules: Vec<u8>, bundle: &[u8], number: u32, side: u32, place: usize) -> Limit {
-    let refused = Refusal { number, side, place: place as u64 };
+    refused_in(rules, bundle, number, side, place, NO_ITEM)
+}
+
+fn refused_in(rules: Vec<u8>, bundle: &[u8], number: u32, side: u32, place: usize, item: u32) -> Limit {
+    let refused = Refusal { number, side, place: place as u64, item };
     Limit { rules, bundle: bundle.to_vec(), refused }
 }
 
 pub fn run(cleaner: &dyn Cleaner, sites: &mut u64) -> Result<(), String> {
-    for limit in bundles().into_iter().chain(rule_files()).chain(long_tails()) {
+    for limit in bundles().into_iter().chain(rule_files()).chain(long_tails()).chain(far_rules()).chain(far_facts()) {
         let got = cleaner.check_bundle(&limit.rules, &limit.bundle).refused;
         if got != limit.refused {
             return Err(format!("limit {sites}: got {got:?}, written {:?}", limit.refused));
@@ -82,7 +87,7 @@ fn rule_files() -> Vec<Limit> {
         accepted(counts(CONCEPTS_MOST, ROLES_MOST), &bundle),
         refused(counts(CONCEPTS_MOST + 1, ROLES_MOST), &bundle, COUNT_OVER, RULES_SIDE, 0),
         refused(counts(CONCEPTS_MOST, ROLES_MOST + 1), &bundle, COUNT_OVER, RULES_SIDE, 1),
-        refused(counts(0, 0), &bundle, UNDECLARED, BUNDLE_SIDE, 1),
+        refused_in(counts(0, 0), &bundle, UNDECLARED, BUNDLE_SIDE, 1, 0),
     ];
     for rules in [disjoint, chain, crossed] {
         limits.push(accepted(file(rules(RULES_MOST)), &bundle));
@@ -120,4 +125,51 @@ fn long_tails() -> Vec<Limit> {
         refused(longer(&rules), &bundle, BYTES_AFTER, RULES_SIDE, rules.len()),
         refused(longer(&[]), &longer(&[]), BYTES_AFTER, RULES_SIDE, 3),
     ]
+}
+
+/// Rules and facts about the edges of bytes, and the last that there may be.
+const FAR_RULES: [u32; 5] = [0, 127, 255, 256, RULES_MOST - 1];
+const FAR_FACTS: [u32; 5] = [1, 255, 256, 2_047, FACTS_MOST - 1];
+
+/// As many rules as there may be, of three bytes each after four of counts, refused at one of them.
+fn far_rules() -> Vec<Limit> {
+    let whole = file(vec![Rule::RolesDisjoint(0, 1); RULES_MOST as usize]);
+    let mut limits = Vec::new();
+    for rule in FAR_RULES {
+        let place = 4 + 3 * rule as usize;
+        let mut put = |at: usize, byte: u8, number: u32| {
+            let mut bytes = whole.clone();
+            bytes[at] = byte;
+            limits.push(refused_in(bytes, &[], number, RULES_SIDE, at, rule));
+        };
+        put(place, FUNCTIONAL as u8 + 1, NO_SUCH_KIND);
+        put(place + 2, 2 * ROLES_MOST as u8, UNDECLARED);
+        limits.push(refused_in(whole[..place].to_vec(), &[], BYTES_END, RULES_SIDE, place, rule));
+        limits.push(refused_in(broken_at(rule), &[], FUNCTIONAL_RIGHT, RULES_SIDE, place, rule));
+    }
+    limits
+}
+
+/// A functional rule that is broken by the rules on both sides of it.
+fn broken_at(rule: u32) -> Vec<u8> {
+    let mut rules = vec![Rule::RoleIncluded(4, 2); RULES_MOST as usize];
+    rules[rule as usize] = Rule::Functional(3);
+    file(rules)
+}
+
+/// As many facts as there may be, of seven bytes each after two of the count, refused at one of them.
+fn far_facts() -> Vec<Limit> {
+    let whole = facts(FACTS_MOST, |fact| longest(fact, fact));
+    let mut limits = Vec::new();
+    for fact in FAR_FACTS {
+        let place = 2 + 7 * fact as usize;
+        let mut undeclared = whole.clone();
+        undeclared[place] += 1;
+        let again =
+            facts(FACTS_MOST, |other| if other == fact { longest(fact - 1, fact - 1) } else { longest(other, other) });
+        limits.push(refused_in(file(vec![]), &undeclared, UNDECLARED, BUNDLE_SIDE, place, fact));
+        limits.push(refused_in(file(vec![]), &again, NOT_ABOVE, BUNDLE_SIDE, place, fact));
+        limits.push(refused_in(file(vec![]), &whole[..place], BYTES_END, BUNDLE_SIDE, place, fact));
+    }
+    limits
 }

@@ -1,5 +1,6 @@
 //! The listed tests: document 01's own cases, every truncation and single-byte change of valid files, and all limits.
 
+mod items;
 mod limits;
 mod rows;
 mod swept;
@@ -17,5 +18,5 @@ fn main() {
     run_case("limits", || limits::run(cleaner.as_ref(), &mut told[2]));
     println!("listed: {} written answers of document 01, no difference", told[0]);
     println!("listed: {} truncated or changed files on every entry point, no difference", told[1]);
-    println!("listed: {} sites at a limit or one over, no difference", told[2]);
+    println!("listed: {} sites at a limit, one over, or refused far from their start, no difference", told[2]);
 }

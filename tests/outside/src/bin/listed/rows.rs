@@ -1,8 +1,8 @@
 //! Document 01's records and reader with their answers written out by hand, and the order in which a row is refused.
 
-use crate::written::{bytes, refused, refused_length, Held, Told, F, R};
+use crate::written::{bytes, refused, refused_call, refused_length, Held, Told, F, NONE, R};
 use outside::cleaner::{Length, Record, Start, Yield};
-use outside::codes::{BUNDLE_SIDE, CALL_SIDE, FACTS_MOST, RULES_SIDE};
+use outside::codes::{BUNDLE_SIDE, FACTS_MOST, RULES_SIDE};
 
 /// The facts of F.
 const WORKED: [(u32, u32, u32); 6] = [(0, 7, 0), (1, 7, 0), (1, 9, 0), (64, 9, 7), (64, 9, 300), (64, 12, 12)];
@@ -15,17 +15,22 @@ const OVER: u32 = 65_536;
 const MOST: u32 = u32::MAX;
 
 /// Rows under R, each with its refusal's number and record.
-const REFUSED_ROWS: [(&[(u32, u32, u32)], u32, u64); 26] = [
+const REFUSED_ROWS: [(&[(u32, u32, u32)], u32, u64); 31] = [
     (&[(2, 7, 0)], 5, 0),
     (&[(63, 7, 0)], 5, 0),
     (&[(65, 7, 7)], 5, 0),
     (&[(96, 7, 7)], 5, 0),
     (&[(OVER, 7, 0)], 5, 0),
     (&[(MOST, MOST, MOST)], 5, 0),
-    (&[(0, 7, 1)], 5, 0),
-    (&[(1, 7, OVER)], 5, 0),
-    (&[(0, OVER, 1)], 5, 0),
+    (&[(2, 7, 1)], 5, 0),
     (&[(2, OVER, 0)], 5, 0),
+    (&[(0, 7, 1)], 12, 0),
+    (&[(1, 7, OVER)], 12, 0),
+    (&[(1, 7, MOST)], 12, 0),
+    (&[(0, OVER, 1)], 12, 0),
+    (&[(0, 7, 0), (1, 7, 1), (64, 9, 7)], 12, 1),
+    (&[(0, 7, 0), (1, 7, 0), (1, 9, 1)], 12, 2),
+    (&[(0, 7, 0), (0, 7, 0), (1, 7, 1)], 8, 1),
     (&[(0, OVER, 0)], 3, 0),
     (&[(0, MOST, 0)], 3, 0),
     (&[(64, OVER, 7)], 3, 0),
@@ -38,7 +43,7 @@ const REFUSED_ROWS: [(&[(u32, u32, u32)], u32, u64); 26] = [
     (&[(0, 7, 0), (1, 7, 0), (1, 7, 0)], 8, 2),
     (&[(1, 9, 0), (0, OVER, 0)], 3, 1),
     (&[(64, 9, 7), (64, 8, OVER)], 3, 1),
-    (&[(64, 9, 7), (0, 9, 1)], 5, 1),
+    (&[(64, 9, 7), (0, 9, 1)], 12, 1),
     (&[(64, 9, 7), (2, 9, 0)], 5, 1),
     (&[(0, 7, 0), (0, 7, 0), (2, 7, 0)], 8, 1),
     (&[(0, 7, 0), (0, OVER, 0), (0, 6, 0)], 3, 1),
@@ -93,7 +98,7 @@ fn out_and_back(held: &mut Held) -> Told {
         let mut got = vec![WORN; slots];
         let fits = slots >= WORKED.len();
         let length = held.cleaner.records(&rules, &bundle, &mut got);
-        held.hold("records", length, if fits { given(6) } else { refused_length(9, CALL_SIDE, 0) })?;
+        held.hold("records", length, if fits { given(6) } else { refused_length(refused_call(9, 0)) })?;
         let due = if fits { [row(&WORKED), vec![WORN; slots - 6]].concat() } else { vec![WORN; slots] };
         held.hold("row", got, due)?;
     }
@@ -101,7 +106,7 @@ fn out_and_back(held: &mut Held) -> Told {
         let mut got = vec![0xEE; room];
         let fits = room >= bundle.len();
         let length = held.cleaner.write_records(&rules, &row(&WORKED), &mut got);
-        held.hold("write_records", length, if fits { given(17) } else { refused_length(9, CALL_SIDE, 0) })?;
+        held.hold("write_records", length, if fits { given(17) } else { refused_length(refused_call(9, 0)) })?;
         let due = if fits { [bundle.clone(), vec![0xEE; room - 17]].concat() } else { vec![0xEE; room] };
         held.hold("written row", got, due)?;
     }
@@ -118,11 +123,11 @@ fn rows_refused(held: &mut Held) -> Told {
         for room in [0, 40] {
             let mut out = vec![0xEE; room];
             let got = held.cleaner.write_records(&bytes(R), &row(records), &mut out);
-            held.hold(&format!("{records:?}"), got, refused_length(number, CALL_SIDE, place))?;
+            held.hold(&format!("{records:?}"), got, refused_length(refused_call(number, place)))?;
             held.hold("nothing written", out, vec![0xEE; room])?;
         }
         let got = held.cleaner.write_records(&bytes("41 00 00"), &row(records), &mut []);
-        held.hold("rules before records", got, refused_length(4, RULES_SIDE, 0))?;
+        held.hold("rules before records", got, refused_length(refused(4, RULES_SIDE, 0, NONE)))?;
     }
     Ok(())
 }
@@ -133,7 +138,7 @@ fn too_many(held: &mut Held) -> Told {
     let rising: Vec<Record> = (0..=FACTS_MOST).map(|subject| Record { subject, ..Record::default() }).collect();
     for over in [&rising, &vec![Record::default(); rising.len()], &vec![WORN; rising.len()]] {
         let got = held.cleaner.write_records(&rules, over, &mut []);
-        held.hold("too many records", got, refused_length(4, CALL_SIDE, 0))?;
+        held.hold("too many records", got, refused_length(refused_call(4, 0)))?;
     }
     // 2 bytes for the count; 2 for each of 128 facts, 3 for each of the others
     let mut out = vec![0xEE; 12_162];
@@ -151,9 +156,9 @@ fn starts(held: &mut Held) -> Told {
     held.hold("start", held.cleaner.reader_start(&bytes(R), &bytes(F)), from(1))?;
     held.hold("start, no facts", held.cleaner.reader_start(&bytes(R), &bytes("00")), from(1))?;
     held.hold("start, a long count", held.cleaner.reader_start(&bytes(R), &many), from(2))?;
-    let broken = Start { refused: refused(8, BUNDLE_SIDE, 3), ..Start::default() };
+    let broken = Start { refused: refused(8, BUNDLE_SIDE, 3, 1), ..Start::default() };
     held.hold("start, refused", held.cleaner.reader_start(&bytes(R), &bytes("02 00 07 00 07")), broken)?;
-    let first = Start { refused: refused(6, RULES_SIDE, 3), ..Start::default() };
+    let first = Start { refused: refused(6, RULES_SIDE, 3, 0), ..Start::default() };
     held.hold("start, rules refused", held.cleaner.reader_start(&bytes("00 01 02 04 00 02 01 01"), &[]), first)
 }
 
@@ -185,7 +190,7 @@ fn any_place(held: &mut Held) -> Told {
         let mut at = place;
         for _ in 0..2 {
             let got = held.cleaner.reader_next(&bytes(hex), &mut at);
-            let due = Yield { refused: refused(number, BUNDLE_SIDE, fault), ..Yield::default() };
+            let due = Yield { refused: refused(number, BUNDLE_SIDE, fault, NONE), ..Yield::default() };
             held.hold(hex, (got, at), (due, place))?;
         }
     }

@@ -1,6 +1,6 @@
 //! Document 01's cases with their answers written out by hand, and the order of its refusals.
 
-use crate::rows;
+use crate::{items, rows};
 use outside::cleaner::{Answer, Asked, Cleaner, Counts, Length, Refusal};
 use outside::codes::{BUNDLE_SIDE, CALL_SIDE, RULES_SIDE};
 use std::fmt::Debug;
@@ -9,7 +9,7 @@ use std::fmt::Debug;
 pub const R: &str = "02 01 05 01 00 01 00 01 40 00 41 00 04 00 03 00 01";
 pub const F: &str = "06 00 07 01 07 01 09 40 09 07 40 09 AC 02 40 0C 0C";
 
-/// A bundle that is refused with 8 at 3.
+/// A bundle that is refused with 8 at 3, fact 1.
 const NOT_ASCENDING: &str = "02 00 07 00 07";
 
 /// R with its rules in other orders; then each of them twice, all of them twice, and some again at the end.
@@ -22,43 +22,50 @@ const RULES_OF_R: [&str; 6] = [
     "02 01 08 04 00 03 00 01 00 01 40 01 00 01 00 41 00 01 00 01 04 00 00 01 40",
 ];
 
-/// Rule files, each with its refusal's number and place.
-const REFUSED_RULES: [(&str, u32, u64); 16] = [
-    ("", 1, 0),
-    ("00 01 02 04 00 02 01 01", 6, 3),
-    ("00 01 02 02 01 01 04 00", 6, 6),
-    ("00 01 02 04 00 02 01 01 00", 7, 8),
-    ("00 01 03 04 00 02 00 00 04 01", 6, 3),
-    ("00 02 04 04 02 04 00 02 03 01 04 01", 6, 5),
-    ("41 00 00", 4, 0),
-    ("00 21 00", 4, 1),
-    ("00 00 81 04", 4, 2),
-    ("00 00 01 05", 5, 3),
-    ("00 00 01 80 80 04", 3, 3),
-    ("01 01 01 00 00 42", 5, 5),
-    ("01 01 01 00 01 40", 5, 4),
-    ("01 01 01 02 00 02", 5, 5),
-    ("01 01 01 04 02", 5, 4),
-    ("40 20 01 00 3F 80 01", 5, 5),
+/// A file in hex, and its refusal's number, place and item.
+pub type RefusedFile = (&'static str, u32, u64, u32);
+
+/// The item of a refusal that has none.
+pub const NONE: u32 = 65_535;
+
+/// Rule files.
+const REFUSED_RULES: [RefusedFile; 17] = [
+    ("", 1, 0, NONE),
+    ("00 01 02 04 00 02 01 01", 6, 3, 0),
+    ("00 01 02 02 01 01 04 00", 6, 6, 1),
+    ("00 01 02 04 00 02 01 01 00", 7, 8, NONE),
+    ("00 01 03 04 00 02 00 00 04 01", 6, 3, 0),
+    ("00 02 04 04 02 04 00 02 03 01 04 01", 6, 5, 1),
+    ("41 00 00", 4, 0, NONE),
+    ("00 21 00", 4, 1, NONE),
+    ("00 00 81 04", 4, 2, NONE),
+    ("00 00 01 05", 11, 3, 0),
+    ("00 00 01 FF FF 03", 11, 3, 0),
+    ("00 00 01 80 80 04", 3, 3, 0),
+    ("01 01 01 00 00 42", 5, 5, 0),
+    ("01 01 01 00 01 40", 5, 4, 0),
+    ("01 01 01 02 00 02", 5, 5, 0),
+    ("01 01 01 04 02", 5, 4, 0),
+    ("40 20 01 00 3F 80 01", 5, 5, 0),
 ];
 
-/// Bundles under R, each with its refusal's number and place.
-const REFUSED_BUNDLES: [(&str, u32, u64); 15] = [
-    ("", 1, 0),
-    ("80 20", 1, 2),
-    ("81 20", 4, 0),
-    ("02 00 07 00 07", 8, 3),
-    ("02 00 07 00 06", 8, 3),
-    ("02 01 07 00 08", 8, 3),
-    ("02 40 07 08 40 07 80", 1, 6),
-    ("02 40 07 08 40 06 80 00", 2, 6),
-    ("02 40 07 08 40 07 07", 8, 4),
-    ("02 01 07 02 07", 5, 3),
-    ("01 41 07 08", 5, 1),
-    ("01 80 01 07", 5, 1),
-    ("01 01 07 00", 7, 3),
-    ("00 00", 7, 1),
-    ("01 01 80 80 80", 3, 2),
+/// Bundles under R.
+const REFUSED_BUNDLES: [RefusedFile; 15] = [
+    ("", 1, 0, NONE),
+    ("80 20", 1, 2, 0),
+    ("81 20", 4, 0, NONE),
+    ("02 00 07 00 07", 8, 3, 1),
+    ("02 00 07 00 06", 8, 3, 1),
+    ("02 01 07 00 08", 8, 3, 1),
+    ("02 40 07 08 40 07 80", 1, 6, 1),
+    ("02 40 07 08 40 06 80 00", 2, 6, 1),
+    ("02 40 07 08 40 07 07", 8, 4, 1),
+    ("02 01 07 02 07", 5, 3, 1),
+    ("01 41 07 08", 5, 1, 0),
+    ("01 80 01 07", 5, 1, 0),
+    ("01 01 07 00", 7, 3, NONE),
+    ("00 00", 7, 1, NONE),
+    ("01 01 80 80 80", 3, 2, 0),
 ];
 
 /// Written hex as bytes.
@@ -85,11 +92,17 @@ pub fn run(cleaner: &dyn Cleaner, answers: &mut u64) -> Told {
     held.rules_again()?;
     held.functional_rules()?;
     held.order_of_arguments()?;
-    rows::run(&mut held)
+    rows::run(&mut held)?;
+    items::run(&mut held)
 }
 
-pub fn refused(number: u32, side: u32, place: u64) -> Refusal {
-    Refusal { number, side, place }
+pub fn refused(number: u32, side: u32, place: u64, item: u32) -> Refusal {
+    Refusal { number, side, place, item }
+}
+
+/// The refusal of the call's own arguments.
+pub fn refused_call(number: u32, place: u64) -> Refusal {
+    refused(number, CALL_SIDE, place, NONE)
 }
 
 fn yes(fact: u32) -> Answer {
@@ -100,12 +113,17 @@ fn no() -> Answer {
     Answer::default()
 }
 
-fn refused_answer(number: u32, side: u32, place: u64) -> Answer {
-    Answer { refused: refused(number, side, place), ..Answer::default() }
+fn refused_answer(refused: Refusal) -> Answer {
+    Answer { refused, ..Answer::default() }
 }
 
-pub fn refused_length(number: u32, side: u32, place: u64) -> Length {
-    Length { refused: refused(number, side, place), length: 0 }
+pub fn refused_length(refused: Refusal) -> Length {
+    Length { refused, length: 0 }
+}
+
+/// The refusal of the bundle that does not ascend.
+fn not_ascending() -> Refusal {
+    refused(8, BUNDLE_SIDE, 3, 1)
 }
 
 fn asked(mark: u32, partner: u32) -> Asked {
@@ -131,8 +149,9 @@ impl Held<'_> {
         for (hex, number) in bad {
             let (rules, bundle) = (bytes("01 00 00"), bytes(&format!("01 00 {hex}")));
             let got = self.cleaner.check_bundle(&rules, &bundle);
-            self.hold(hex, got, refused_length(number, BUNDLE_SIDE, 2))?;
-            self.hold(hex, self.cleaner.check_rules(&bytes(hex)), refused_length(number, RULES_SIDE, 0))?;
+            self.hold(hex, got, refused_length(refused(number, BUNDLE_SIDE, 2, 0)))?;
+            let count = refused_length(refused(number, RULES_SIDE, 0, NONE));
+            self.hold(hex, self.cleaner.check_rules(&bytes(hex)), count)?;
         }
         Ok(())
     }
@@ -189,7 +208,7 @@ impl Held<'_> {
         }
         let mut out = vec![0xEE; 2];
         let got = self.cleaner.write_kept(&bytes(R), &bytes(F), &mut out);
-        self.hold("kept, one too short", got, refused_length(9, CALL_SIDE, 0))?;
+        self.hold("kept, one too short", got, refused_length(refused_call(9, 0)))?;
         self.hold("nothing written", out, vec![0xEE; 2])
     }
 
@@ -209,14 +228,14 @@ impl Held<'_> {
 
     /// Refusals of the rules, which come before a bad bundle's; then those of bundles.
     fn refusals(&mut self) -> Told {
-        for (hex, number, place) in REFUSED_RULES {
-            let due = refused_length(number, RULES_SIDE, place);
+        for (hex, number, place, item) in REFUSED_RULES {
+            let due = refused_length(refused(number, RULES_SIDE, place, item));
             self.hold(hex, self.cleaner.check_rules(&bytes(hex)), due)?;
             self.hold(hex, self.cleaner.check_bundle(&bytes(hex), &bytes("81 20")), due)?;
         }
-        for (hex, number, place) in REFUSED_BUNDLES {
+        for (hex, number, place, item) in REFUSED_BUNDLES {
             let got = self.cleaner.check_bundle(&bytes(R), &bytes(hex));
-            self.hold(hex, got, refused_length(number, BUNDLE_SIDE, place))?;
+            self.hold(hex, got, refused_length(refused(number, BUNDLE_SIDE, place, item)))?;
         }
         self.hold("no facts", self.cleaner.check_bundle(&bytes(R), &bytes("00")), Length::default())
     }
@@ -241,13 +260,14 @@ impl Held<'_> {
         for (q, left, right) in (0..32).map(|case| (case % 2, case / 2 % 4, case / 8)) {
             let after = format!("00 02 02 04 0{q} 02 0{left} 0{right}");
             let before = format!("00 02 02 02 0{left} 0{right} 04 0{q}");
-            for (hex, place) in [(after, 3), (before, 6)] {
-                let broken = refused_length(6, RULES_SIDE, place);
+            for (hex, place, rule) in [(after, 3, 0), (before, 6, 1)] {
+                let broken = refused_length(refused(6, RULES_SIDE, place, rule));
                 let due = if right < 2 { broken } else { Length { length: 2, ..Length::default() } };
                 self.hold(&hex, self.cleaner.check_rules(&bytes(&hex)), due)?;
                 self.hold(&hex, self.cleaner.count(&bytes(&hex), &bytes("00")).refused, due.refused)?;
                 let longer = bytes(&format!("{hex} 00"));
-                self.hold(&hex, self.cleaner.check_rules(&longer), refused_length(7, RULES_SIDE, 8))?;
+                let after = refused_length(refused(7, RULES_SIDE, 8, NONE));
+                self.hold(&hex, self.cleaner.check_rules(&longer), after)?;
             }
         }
         Ok(())
@@ -263,8 +283,8 @@ impl Held<'_> {
     }
 
     fn fact_numbers(&mut self, rules: &[u8], bundle: &[u8]) -> Told {
-        let none = Asked { refused: refused(10, CALL_SIDE, 0), ..Asked::default() };
-        let broken = Asked { refused: refused(8, BUNDLE_SIDE, 3), ..Asked::default() };
+        let none = Asked { refused: refused_call(10, 0), ..Asked::default() };
+        let broken = Asked { refused: not_ascending(), ..Asked::default() };
         for fact in [6, 7, 65_536, 1 << 32, u64::MAX] {
             self.hold("fact number", self.cleaner.ask(rules, bundle, fact), none)?;
             self.hold("fact number after the bundle", self.cleaner.ask(rules, &bytes(NOT_ASCENDING), fact), broken)?;
@@ -273,7 +293,7 @@ impl Held<'_> {
     }
 
     fn question_codes(&mut self, rules: &[u8], bundle: &[u8]) -> Told {
-        let (undeclared, broken) = (refused_answer(5, CALL_SIDE, 0), refused_answer(8, BUNDLE_SIDE, 3));
+        let (undeclared, broken) = (refused_answer(refused_call(5, 0)), refused_answer(not_ascending()));
         for code in [2, 63, 66, 128, 65_536, 1 << 32, u64::MAX] {
             self.hold("code", self.cleaner.has(rules, bundle, code, u64::MAX), undeclared)?;
             self.hold("code", self.cleaner.joins(rules, bundle, code, u64::MAX, 0), undeclared)?;
@@ -283,7 +303,7 @@ impl Held<'_> {
     }
 
     fn question_things(&mut self, rules: &[u8], bundle: &[u8]) -> Told {
-        let too_large = refused_answer(3, CALL_SIDE, 0);
+        let too_large = refused_answer(refused_call(3, 0));
         for thing in [65_536, 1 << 32, u64::MAX] {
             self.hold("thing", self.cleaner.has(rules, bundle, 64, thing), too_large)?;
             self.hold("from", self.cleaner.joins(rules, bundle, 1, thing, 0), too_large)?;
@@ -296,7 +316,7 @@ impl Held<'_> {
         for (marks_room, partners_room) in [(5, 6), (6, 5), (0, 6), (6, 0), (0, 0)] {
             let (mut marks, mut partners) = (vec![77; marks_room], vec![777; partners_room]);
             let got = self.cleaner.mark(rules, bundle, &mut marks, &mut partners);
-            self.hold("room", got, Counts { refused: refused(9, CALL_SIDE, 0), ..Counts::default() })?;
+            self.hold("room", got, Counts { refused: refused_call(9, 0), ..Counts::default() })?;
             self.hold("no marks written", marks, vec![77; marks_room])?;
             self.hold("no partners written", partners, vec![777; partners_room])?;
         }

@@ -1,9 +1,9 @@
 use Rattle.site.proofs.OfItems.{items}
-use Rattle.site.proofs.items.read_count.Statement.{statement}
-use Rattle.site.proofs.items.read_count.Tie as tie
+use Rattle.site.proofs.items.read_within.Statement.{statement}
+use Rattle.site.proofs.items.read_within.Tie as tie
 
-pub read-count-spec : {M : Type 1} → statement M
-read-count-spec =
+pub read-within-spec : {M : Type 1} → statement M
+read-within-spec =
     tie.close
     (tie.spec
     (λ c κs. search items)
