@@ -66,8 +66,8 @@ told dead_lemmas.py crates/site/specs/Kinds.antt '\npub record Pair : Type 0 whe
 told uncalled.py crates/site/src/nodes.rt '\nimpl Role {\n    pub const MOST: u32 = 32;\n}\n' ': nothing uses Role::MOST'
 told uncalled.py crates/site/src/nodes.rt '\nimpl Declared {\n    pub fn new(roles: u32) -> Self {\n        Self { concepts: 0, roles }\n    }\n}\n' ': nothing calls Declared::new'
 told uncalled.py crates/site/src/nodes.rt '\nimpl Concept {\n    pub fn halve(x: u32) -> u32 {\n        if x < 2 {\n            return x;\n        }\n        Concept::halve(x / 2)\n    }\n}\n' ': nothing calls Concept::halve'
-told uncalled.py crates/rules/src/read.rt '\nfn push(x: u32) -> u32 {\n    x\n}\n' ': nothing calls push'
-told uncalled.py crates/rules/src/read.rt '\nconst ROOM: u32 = 1;\n' ': nothing uses ROOM'
+told uncalled.py crates/rule/src/read.rt '\nfn push(x: u32) -> u32 {\n    x\n}\n' ': nothing calls push'
+told uncalled.py crates/rule/src/read.rt '\nconst ROOM: u32 = 1;\n' ': nothing uses ROOM'
 
 if [ -d "${DOCUMENTS:-../shared}" ]; then
   DOCUMENTS=$(realpath "${DOCUMENTS:-../shared}")

@@ -15,7 +15,7 @@ use Rattle.site.specs.Items.{countAt, endAt}
 use Rattle.site.specs.Kinds.{ofConcept}
 use Rattle.site.specs.Limits.{mostFacts, mostNumber, mostThing}
 use Rattle.site.proofs.There.{count-there, end-there}
-use Rattle.rules.specs.declared.head.Head.{Head}
+use Rattle.rule.specs.declared.head.Head.{Head}
 use Rattle.bundle.specs.Bundle.{Last, factsFrom, factsOf, predicateKnown, checkBundle}
 use Rattle.bundle.specs.Bundle.Last.{none}
 use Rattle.bundle.specs.Lawful.{LawfulFact, LawfulFrom, LawfulFacts}

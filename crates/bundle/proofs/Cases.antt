@@ -8,7 +8,7 @@ use Rattle.number.specs.Number.{third, second, formOf, numberAt}
 use Rattle.site.specs.declared.fact.Fact.{Fact}
 use Rattle.site.specs.Codes.{predicateDeclared}
 use Rattle.site.specs.Items.{testedAt, atMost, itemsFrom, endAt}
-use Rattle.rules.specs.declared.head.Head.{Head}
+use Rattle.rule.specs.declared.head.Head.{Head}
 use Rattle.bundle.specs.Bundle.{factAt, nextFact, factsIn, checkBundle, readBundle}
 
 pub record Case : Type 0 where

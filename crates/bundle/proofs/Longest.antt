@@ -1,7 +1,7 @@
 -- "no valid file is over 28,674 bytes", and the reading of a longer one looks at no byte past them: two bytes of the count,
 -- then at most seven for each of 4,096 facts, since a declared predicate has one byte.
 use Prim.Native.Nat.{ℕ, zero, suc, _+_, _-_, _*_, _≤_, _<_}
-use mathlib.Core.Path.{_≡_, refl, ap}
+use mathlib.Core.Path.{_≡_, refl}
 use mathlib.Core.Bool.{Bool, true, false, cond}
 use mathlib.Core.List.{List}
 use lib.ListN.{length, take}
@@ -18,7 +18,7 @@ use Rattle.site.specs.Codes.{predicateDeclared}
 use Rattle.site.specs.Items.{atMost, countAt, codeAt, itemsFrom, endAt}
 use Rattle.site.specs.Limits.{mostFacts, mostNumber, mostRoles, mostThing}
 use Rattle.site.proofs.There.{tested-there, count-there, same-tested}
-use Rattle.rules.specs.declared.head.Head.{Head}
+use Rattle.rule.specs.declared.head.Head.{Head}
 use Rattle.bundle.specs.Bundle.{Last, factAt, Stand, nextFact, factsFrom, predicateKnown, checkBundle}
 use Rattle.bundle.specs.Bundle.Last.{none}
 use Rattle.bundle.specs.Told.{factRest}

@@ -2,7 +2,7 @@
 use Prim.Native.Nat.{ℕ}
 use mathlib.Core.Path.{_≡_, sym}
 use mathlib.Core.List.{List}
-use Rattle.number.specs.Answer.{Answer, Read, over, _then_}
+use Rattle.number.specs.Answer.{Answer, Read, _then_}
 use Rattle.number.specs.Answer.Answer.{gives, refuses}
 use Rattle.number.specs.declared.refusal.Refusal.{Refusal}
 use Rattle.number.proofs.Answers.{Halts, halts, never, over-refused}
@@ -11,7 +11,7 @@ use Rattle.site.specs.Items.{atMost, countAt, itemsFrom, endAt}
 use Rattle.site.specs.Limits.{mostFacts}
 use Rattle.site.proofs.InFile.{tested-of-none, end-of-none}
 use Rattle.site.proofs.Numbered.{of-item}
-use Rattle.rules.specs.declared.head.Head.{Head}
+use Rattle.rule.specs.declared.head.Head.{Head}
 use Rattle.bundle.specs.Bundle.{nextFact, factsFrom, predicateKnown, checkBundle}
 use Rattle.bundle.specs.Bundle.Last.{none}
 use Rattle.bundle.specs.Faults.{BundleFault}

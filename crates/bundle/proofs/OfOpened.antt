@@ -9,7 +9,7 @@ use Rattle.number.specs.declared.refusal.Refusal.{Refusal}
 use Rattle.number.proofs.Answers.{given-once as same-given, went}
 use Rattle.rules.specs.RuleFile.{checkRules}
 use Rattle.rules.specs.Told.{rulesTold}
-use Rattle.rules.specs.declared.head.Head.{Head}
+use Rattle.rule.specs.declared.head.Head.{Head}
 use Rattle.rules.specs.declared.check.RulesRead.{RulesRead}
 use Rattle.rules.specs.declared.check.RulesRead.the-variants.{Accepted as RulesAccepted, Refused as RulesRefused}
 use Rattle.bundle.specs.Bundle.{checkBundle}

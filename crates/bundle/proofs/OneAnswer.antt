@@ -7,7 +7,7 @@ use Rattle.number.specs.Answer.{Answer, Read}
 use Rattle.number.specs.Answer.Answer.{gives, refuses}
 use Rattle.number.proofs.One.{one, undone}
 use Rattle.site.specs.declared.fact.Fact.{Fact}
-use Rattle.rules.specs.declared.head.Head.{Head}
+use Rattle.rule.specs.declared.head.Head.{Head}
 use Rattle.bundle.specs.Bundle.{factAt, checkBundle}
 use Rattle.bundle.specs.Opened.{opening, openedTold}
 use Rattle.bundle.specs.Told.{factTold, bundleTold}

@@ -21,7 +21,7 @@ use Rattle.site.specs.Kinds.{below, ofConcept}
 use Rattle.site.specs.Limits.{mostFacts, mostThing}
 use Rattle.site.specs.Told.{endTold, endRefusal}
 use Rattle.site.proofs.Numbered.{Left, left-all, left-none, left-refused, left-next}
-use Rattle.rules.specs.declared.head.Head.{Head}
+use Rattle.rule.specs.declared.head.Head.{Head}
 use Rattle.bundle.specs.Bundle.{factAt, ascends, Stand, nextFact, factsFrom, predicateKnown, checkBundle}
 use Rattle.bundle.specs.Bundle.Last.{none}
 use Rattle.bundle.specs.Told.{factTold, factRefusal, stepTold, stepRefusal, factRest, lastOf, beforeFirst, afterFact, standOf}

@@ -3,13 +3,13 @@
 use Prim.Native.Nat.{ℕ, _≤_, _<_}
 use mathlib.Core.Logic.{_⊎_, inl, inr}
 use mathlib.Core.Path.{_≡_, refl}
-use mathlib.Core.Bool.{Bool, cond}
+use mathlib.Core.Bool.{Bool}
 use mathlib.Core.List.{List}
 use lib.ListN.{length}
 use lib.Dec.{ltb}
 use native.Mathlib.Omega.{arith}
-use Rattle.number.specs.Answer.{Answer, refusal, over, _then_}
-use Rattle.number.specs.Answer.Answer.{gives, refuses}
+use Rattle.number.specs.Answer.{Answer, refusal}
+use Rattle.number.specs.Answer.Answer.{gives}
 use Rattle.number.specs.Number.{numberAt}
 use Rattle.number.specs.declared.refusal.Refusal.{Refusal}
 use Rattle.number.proofs.Refusing.{Refuses, refuses-gives, refuses-so, refuses-test, refuses-over, refuses-then}
@@ -17,7 +17,7 @@ use Rattle.site.specs.declared.fact.Fact.{Fact}
 use Rattle.site.specs.Items.{atMost, countAt, codeAt, itemsFrom, endAt}
 use Rattle.site.specs.Limits.{mostFacts, mostThing}
 use Rattle.site.proofs.InFile.{InFile, at-a-byte, number-placed, tested-placed, items-placed, end-placed, after-number, number-starts, after-tested}
-use Rattle.rules.specs.declared.head.Head.{Head}
+use Rattle.rule.specs.declared.head.Head.{Head}
 use Rattle.bundle.specs.Bundle.{factAt, ascends, Stand, nextFact, factsFrom, predicateKnown, checkBundle}
 use Rattle.bundle.specs.Bundle.Last.{none}
 use Rattle.bundle.specs.Told.{factRest}
@@ -82,7 +82,7 @@ module _ (s : List ℕ) where
     facts-placed : (n at : ℕ) → at ≤ length s → Placed (factsFrom known s n at)
     facts-placed n at h =
         refuses-over _ (λ end. end .at) (itemsFrom (nextFact known s) 0 n (record { last = none; at = at }))
-        (items-placed 1 OfBundle s (nextFact known s) (λ here. here .at ≤ length s) next-placed next-inside 0 n (record { last = none; at = at }) h)
+        (items-placed 1 OfBundle s (nextFact known s) (λ here. here .at ≤ length s) next-placed next-inside n (record { last = none; at = at }) h)
 
   -- the whole reading's refusal
   pub refused-in-bundle : (h : Head) → Placed (checkBundle h s)

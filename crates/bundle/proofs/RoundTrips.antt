@@ -17,7 +17,7 @@ use Rattle.site.specs.Items.{testedAt, atMost, endAt}
 use Rattle.site.specs.Kinds.{ofConcept}
 use Rattle.site.specs.Limits.{mostFacts, mostNumber, mostRoles, mostThing}
 use Rattle.site.specs.Lists.{each}
-use Rattle.rules.specs.declared.head.Head.{Head}
+use Rattle.rule.specs.declared.head.Head.{Head}
 use Rattle.bundle.specs.Bundle.{Last, factsOf, predicateKnown, checkBundle, readBundle, factBytes, bundleOf}
 use Rattle.bundle.specs.Bundle.Last.{none}
 use Rattle.bundle.specs.Lawful.{LawfulFact, LawfulFrom, LawfulFacts}

@@ -9,7 +9,7 @@ use Rattle.site.specs.Kinds.{below}
 use Rattle.site.specs.Lists.{keep}
 use Rattle.site.proofs.Lists.{length-keep, count-within}
 use Rattle.site.proofs.Order.{below-trans}
-use Rattle.rules.specs.declared.head.Head.{Head}
+use Rattle.rule.specs.declared.head.Head.{Head}
 use Rattle.bundle.specs.Bundle.{Last, ascends}
 use Rattle.bundle.specs.Bundle.Last.{none, after}
 use Rattle.bundle.specs.Lawful.{LawfulFrom, LawfulFacts}

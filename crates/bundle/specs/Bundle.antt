@@ -13,7 +13,7 @@ use Rattle.site.specs.Codes.{predicateDeclared}
 use Rattle.site.specs.Limits.{mostFacts, mostThing}
 use Rattle.site.specs.Lists.{each}
 use Rattle.site.specs.Items.{countAt, codeAt, itemsFrom, endAt, onward}
-use Rattle.rules.specs.declared.head.Head.{Head}
+use Rattle.rule.specs.declared.head.Head.{Head}
 use Rattle.bundle.specs.declared.facts.Facts.{Facts}
 
 -- "predicate, subject, and for a role the object": one fact at a place, its predicate tested

@@ -8,7 +8,7 @@ use Rattle.number.specs.Answer.Answer.{gives, refuses}
 use Rattle.number.specs.declared.refusal.Refusal.{Refusal}
 use Rattle.site.specs.Items.{countAt, OfItem, endAt}
 use Rattle.site.specs.Limits.{mostFacts}
-use Rattle.rules.specs.declared.head.Head.{Head}
+use Rattle.rule.specs.declared.head.Head.{Head}
 use Rattle.bundle.specs.Bundle.{nextFact, factsFrom, predicateKnown}
 use Rattle.bundle.specs.Bundle.Last.{none}
 

@@ -7,7 +7,7 @@ use lib.ListN.{length}
 use Rattle.site.specs.declared.fact.Fact.{Fact}
 use Rattle.site.specs.Kinds.{ofConcept}
 use Rattle.site.specs.Limits.{mostFacts, mostThing}
-use Rattle.rules.specs.declared.head.Head.{Head}
+use Rattle.rule.specs.declared.head.Head.{Head}
 use Rattle.bundle.specs.Bundle.{Last, ascends, predicateKnown}
 use Rattle.bundle.specs.Bundle.Last.{none, after}
 

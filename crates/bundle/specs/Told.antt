@@ -1,6 +1,6 @@
 -- What each case of the code's answers says, in document 01's number and values.
 use Prim.Native.Nat.{ℕ}
-use mathlib.Core.Bool.{Bool, true, false, cond}
+use mathlib.Core.Bool.{true, false, cond}
 use mathlib.Core.List.{List}
 use lib.Dec.{ltb}
 use Rattle.number.specs.Answer.{Answer, Read, noRefusal, _then_}

@@ -6,7 +6,7 @@ use crate::facts::Facts;
 use crate::walk::walk_facts;
 use number::Num;
 use number::Refusal;
-use rules::Head;
+use rule::Head;
 use site::End;
 use site::Fact;
 use site::read_end;

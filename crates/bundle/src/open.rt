@@ -5,7 +5,7 @@ use crate::check::BundleRead;
 use crate::check::check_bundle;
 use crate::facts::Facts;
 use number::Refusal;
-use rules::Head;
+use rule::Head;
 use rules::RulesRead;
 use rules::check_rules;
 

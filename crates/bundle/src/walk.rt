@@ -7,7 +7,7 @@ use crate::before::Before;
 use crate::one::FactRead;
 use crate::one::fact_at;
 use number::Refusal;
-use rules::Head;
+use rule::Head;
 use site::End;
 
 // Where the walk is, and the fact before, if there is any.

@@ -21,7 +21,8 @@ use Rattle.site.specs.Codes.{roleOf, conceptOf, conceptDeclared, predicateDecla
 use Rattle.site.specs.Limits.{mostFacts, noPartner}
 use Rattle.site.specs.Lists.{upTo, any, count, first, each}
 use Rattle.site.specs.Items.{testedAt, atMost, itemsFrom, endAt}
-use Rattle.rules.specs.RuleFile.{headOf, codeDeclared, ruleAt, nextRule, rulesIn, nextUnbroken, afterRules, checkRules, siteOf}
+use Rattle.rule.specs.OneRule.{headOf, codeDeclared, ruleAt}
+use Rattle.rules.specs.RuleFile.{nextRule, rulesIn, nextUnbroken, afterRules, checkRules, siteOf}
 use Rattle.bundle.specs.Bundle.{factAt, nextFact, factsIn, checkBundle, readBundle}
 use Rattle.steps.specs.Steps.{Included, Excluded}
 use Rattle.steps.specs.Steps.SaysIncluded.{kind-0, kind-2}

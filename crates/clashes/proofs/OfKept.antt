@@ -6,7 +6,7 @@ use mathlib.Core.List.{List, List·Memᴰ}
 use borrow.Author.Tests.{eqb-true, eq-eqb}
 use Rattle.site.specs.declared.fact.Fact.{Fact}
 use Rattle.site.proofs.Lists.{keep-found, keep-of}
-use Rattle.rules.specs.declared.head.Head.{Head}
+use Rattle.rule.specs.declared.head.Head.{Head}
 use Rattle.bundle.specs.Lawful.{LawfulFacts}
 use Rattle.bundle.proofs.SubLawful.{keep-lawful}
 use Rattle.steps.specs.Tables.{Follows}

@@ -10,7 +10,7 @@ use Rattle.site.specs.declared.fact.Fact.{Fact}
 use Rattle.site.specs.Kinds.Node.{concept, role}
 use Rattle.site.specs.Codes.{conceptOf, roleOf, conceptDeclared, roleDeclared}
 use Rattle.site.specs.Limits.{mostThing}
-use Rattle.rules.specs.declared.head.Head.{Head}
+use Rattle.rule.specs.declared.head.Head.{Head}
 use Rattle.rules.specs.RuleFile.{checkRules, siteOf}
 use Rattle.bundle.specs.Bundle.{readBundle, bundleOf}
 use Rattle.writer.specs.Records.{roomFor}

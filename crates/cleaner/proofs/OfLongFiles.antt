@@ -16,7 +16,7 @@ use Rattle.number.proofs.Laws.{Bytes}
 use Rattle.site.specs.Limits.{mostRoles}
 use Rattle.site.specs.declared.fact.Fact.{Fact}
 use Rattle.rules.specs.RuleFile.{checkRules, siteOf}
-use Rattle.rules.specs.declared.head.Head.{Head}
+use Rattle.rule.specs.declared.head.Head.{Head}
 use Rattle.rules.proofs.AcceptedFile.{accepted-lawful}
 use Rattle.rules.proofs.Longest.{longest as longestRules, accepted-short as rules-short, past-longest as past-rules}
 use Rattle.bundle.specs.Bundle.{checkBundle, readBundle}

@@ -13,7 +13,7 @@ use Rattle.number.specs.Answer.{Answer, refusal, _then_, over, laid}
 use Rattle.number.specs.Answer.Answer.{gives, refuses}
 use Rattle.number.specs.declared.refusal.Refusal.{Refusal}
 use Rattle.site.specs.declared.fact.Fact.{Fact}
-use Rattle.rules.specs.declared.head.Head.{Head}
+use Rattle.rule.specs.declared.head.Head.{Head}
 use Rattle.rules.specs.RuleFile.{checkRules, siteOf}
 use Rattle.bundle.specs.Bundle.{readBundle}
 use Rattle.steps.specs.Tables.{Follows, followsOf}

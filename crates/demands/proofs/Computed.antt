@@ -17,7 +17,7 @@ use Rattle.site.specs.Kinds.Node.{concept, role}
 use Rattle.site.specs.Limits.{mostThing}
 use Rattle.site.specs.declared.fact.Fact.{Fact}
 use Rattle.site.proofs.Lists.{and-left, and-right}
-use Rattle.rules.specs.declared.head.Head.{Head}
+use Rattle.rule.specs.declared.head.Head.{Head}
 use Rattle.rules.proofs.AcceptedFile.{accepted-lawful}
 use Rattle.bundle.specs.Bundle.{bundleOf}
 use Rattle.writer.specs.Records.{roomFor}

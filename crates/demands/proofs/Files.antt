@@ -12,7 +12,7 @@ use Rattle.number.proofs.Answers.{Halts, halts, never, same-refused}
 use Rattle.number.proofs.Answers.Halts.{at-first, at-rest}
 use Rattle.site.specs.declared.fact.Fact.{Fact}
 use Rattle.rules.specs.RuleFile.{checkRules, siteOf}
-use Rattle.rules.specs.declared.head.Head.{Head}
+use Rattle.rule.specs.declared.head.Head.{Head}
 use Rattle.rules.proofs.OfFaults.{rules-fault}
 use Rattle.bundle.specs.Bundle.{factsOf, checkBundle, readBundle}
 use Rattle.bundle.specs.Opened.{opening}

@@ -14,8 +14,9 @@ use Rattle.number.proofs.Answers.{went, given-once, over-given}
 use Rattle.site.specs.Items.{countAt, testedAt, atMost}
 use Rattle.site.specs.Limits.{mostConcepts, mostRoles, mostRules, mostFacts, mostNumber}
 use Rattle.site.proofs.There.{count-there}
-use Rattle.rules.specs.RuleFile.{headOf, checkRules}
-use Rattle.rules.specs.declared.head.Head.{Head}
+use Rattle.rule.specs.OneRule.{headOf}
+use Rattle.rules.specs.RuleFile.{checkRules}
+use Rattle.rule.specs.declared.head.Head.{Head}
 use Rattle.rules.proofs.AcceptedFile.{accepted-rules}
 use Rattle.bundle.specs.Bundle.{factsOf, checkBundle, readBundle}
 use Rattle.bundle.specs.Lawful.{LawfulFacts}

@@ -18,7 +18,7 @@ use Rattle.site.specs.Limits.{mostConcepts, mostRoles, mostRules, mostFacts, mo
 use Rattle.site.specs.declared.fact.Fact.{Fact}
 use Rattle.rules.specs.Faults.{RulesFault}
 use Rattle.rules.specs.RuleFile.{checkRules, siteOf}
-use Rattle.rules.specs.declared.head.Head.{Head}
+use Rattle.rule.specs.declared.head.Head.{Head}
 use Rattle.bundle.specs.Bundle.{readBundle, bundleOf}
 use Rattle.bundle.specs.Faults.{BundleFault}
 use Rattle.bundle.specs.Lawful.{LawfulFacts}

@@ -7,7 +7,7 @@ use borrow.Author.Needs.{needs}
 use Rattle.number.specs.declared.refusal.Refusal.{Refusal}
 use Rattle.rules.specs.RuleFile.{checkRules}
 use Rattle.rules.specs.Told.{rulesTold}
-use Rattle.rules.specs.declared.head.Head.{Head}
+use Rattle.rule.specs.declared.head.Head.{Head}
 use Rattle.rules.specs.declared.check.RulesRead.{RulesRead}
 use Rattle.rules.specs.declared.check.RulesRead.the-variants.{Accepted as RulesAccepted, Refused as RulesRefused}
 use Rattle.bundle.specs.Opened.{opening, openedTold}

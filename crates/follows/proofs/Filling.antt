@@ -15,11 +15,12 @@ use Rattle.site.specs.Codes.{roleOf}
 use Rattle.site.specs.Lists.{each}
 use Rattle.site.specs.Told.{ruleTold}
 use Rattle.site.specs.declared.rule.Rule.{Rule as RuleCase}
-use Rattle.rules.specs.RuleFile.{ruleAt, rulesIn}
-use Rattle.rules.specs.Told.{ruleReadTold}
-use Rattle.rules.specs.declared.head.Head.{Head}
-use Rattle.rules.specs.declared.read.RuleRead.{RuleRead}
-use Rattle.rules.specs.declared.read.RuleRead.the-variants.{Read as RuleIs, Refused as RuleRefused}
+use Rattle.rule.specs.OneRule.{ruleAt}
+use Rattle.rules.specs.RuleFile.{rulesIn}
+use Rattle.rule.specs.Told.{ruleReadTold}
+use Rattle.rule.specs.declared.head.Head.{Head}
+use Rattle.rule.specs.declared.read.RuleRead.{RuleRead}
+use Rattle.rule.specs.declared.read.RuleRead.the-variants.{Read as RuleIs, Refused as RuleRefused}
 use Rattle.rules.proofs.Checking.{none-left, one-more, all-read}
 use Rattle.steps.specs.Tables.{Pair, arrowsOf}
 use Rattle.tables.specs.Bits.{bitOf, IsTable}

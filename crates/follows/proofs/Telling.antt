@@ -12,7 +12,7 @@ use Rattle.site.specs.declared.nodes.Declared.{Declared}
 use Rattle.site.proofs.Lists.{same-test}
 use Rattle.rules.specs.Lawful.{Lawful}
 use Rattle.rules.specs.RuleFile.{rulesIn, siteOf}
-use Rattle.rules.specs.declared.head.Head.{Head}
+use Rattle.rule.specs.declared.head.Head.{Head}
 use Rattle.steps.specs.Tables.{arrowsOf, followsFrom, followsOf}
 use Rattle.steps.proofs.Arrows.{leads-included, included-leads}
 use Rattle.steps.proofs.Decided.{decides, functional-out, functional-in}

@@ -10,7 +10,8 @@ use Rattle.site.specs.Codes.{roleOf, conceptOf, conceptDeclared, predicateDecla
 use Rattle.site.specs.Limits.{noPartner}
 use Rattle.site.specs.Lists.{upTo, any, count, first, each}
 use Rattle.site.specs.Items.{testedAt, atMost, itemsFrom, endAt}
-use Rattle.rules.specs.RuleFile.{headOf, codeDeclared, ruleAt, nextRule, rulesIn, nextUnbroken, afterRules, checkRules, siteOf}
+use Rattle.rule.specs.OneRule.{headOf, codeDeclared, ruleAt}
+use Rattle.rules.specs.RuleFile.{nextRule, rulesIn, nextUnbroken, afterRules, checkRules, siteOf}
 use Rattle.bundle.specs.Bundle.{factAt, nextFact, factsIn, checkBundle, readBundle}
 use Rattle.steps.specs.Tables.{rolesOf, nodesOf, arrow, mates, find, rowsOf, looked, through, closure, apart, empty, excludes, functionalIn, excludedRows, followsFrom, followsOf}
 use Rattle.clashes.specs.Types.{typesOf}

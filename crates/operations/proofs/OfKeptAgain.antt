@@ -3,7 +3,7 @@ use Prim.Native.Nat.{ℕ}
 use mathlib.Core.Path.{_≡_}
 use mathlib.Core.List.{List}
 use Rattle.number.specs.Answer.Answer.{gives}
-use Rattle.rules.specs.declared.head.Head.{Head}
+use Rattle.rule.specs.declared.head.Head.{Head}
 use Rattle.rules.specs.RuleFile.{checkRules, siteOf}
 use Rattle.rules.proofs.AcceptedFile.{accepted-lawful as lawful-rules}
 use Rattle.bundle.specs.Bundle.{checkBundle, readBundle, factsOf, bundleOf}

@@ -19,7 +19,7 @@ use Rattle.site.specs.Kinds.{Site}
 use Rattle.site.specs.Limits.{mostFacts}
 use Rattle.site.specs.Lists.{count, each}
 use Rattle.site.proofs.Lists.{length-keep, count-within}
-use Rattle.rules.specs.declared.head.Head.{Head}
+use Rattle.rule.specs.declared.head.Head.{Head}
 use Rattle.rules.specs.RuleFile.{siteOf}
 use Rattle.bundle.specs.Bundle.{factsOf, factBytes, bundleOf}
 use Rattle.bundle.specs.declared.facts.Facts.{Facts}

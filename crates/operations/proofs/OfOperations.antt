@@ -18,7 +18,7 @@ use Rattle.site.specs.Codes.{roleCode, predicateDeclared}
 use Rattle.site.specs.Limits.{mostFacts}
 use Rattle.site.proofs.Lists.{getD-within}
 use Rattle.rules.specs.Lawful.{Lawful}
-use Rattle.rules.specs.declared.head.Head.{Head}
+use Rattle.rule.specs.declared.head.Head.{Head}
 use Rattle.rules.specs.RuleFile.{checkRules, siteOf}
 use Rattle.rules.proofs.AcceptedFile.{accepted-lawful as lawful-rules}
 use Rattle.bundle.specs.Bundle.{Last, checkBundle, readBundle, factsOf}

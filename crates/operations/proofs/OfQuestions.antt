@@ -17,7 +17,7 @@ use Rattle.site.specs.Limits.{mostThing}
 use Rattle.site.specs.Lists.{first}
 use Rattle.site.proofs.OfKinds.{concept-declared, role-declared}
 use Rattle.site.proofs.OfCodes.{concept-code, role-code}
-use Rattle.rules.specs.declared.head.Head.{Head}
+use Rattle.rule.specs.declared.head.Head.{Head}
 use Rattle.rules.specs.RuleFile.{siteOf}
 use Rattle.bundle.specs.Bundle.{factsOf}
 use Rattle.bundle.specs.declared.facts.Facts.{Facts}

@@ -9,7 +9,7 @@ use Rattle.number.specs.Answer.Answer.{gives, refuses}
 use Rattle.number.specs.Number.{bytesOf, threeBytes}
 use Rattle.site.specs.Limits.{mostFacts}
 use Rattle.site.specs.Kinds.{declared}
-use Rattle.rules.specs.declared.head.Head.{Head}
+use Rattle.rule.specs.declared.head.Head.{Head}
 use Rattle.rules.specs.RuleFile.{siteOf}
 use Rattle.bundle.specs.Bundle.{factsOf}
 use Rattle.bundle.specs.declared.facts.Facts.{Facts}

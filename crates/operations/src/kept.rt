@@ -16,7 +16,7 @@ use clean::store_kept;
 use follows::fill;
 use number::Refusal;
 use number::size_of_number;
-use rules::Head;
+use rule::Head;
 use tables::BLANK;
 use tables::Table;
 use writer::BundleWrote;

@@ -15,7 +15,7 @@ use clean::judge;
 use clean::mark_facts;
 use follows::fill;
 use number::Refusal;
-use rules::Head;
+use rule::Head;
 use tables::BLANK;
 
 // The counts, or the refusal.

@@ -12,7 +12,7 @@ use clean::lowest_support;
 use follows::fill;
 use number::Num;
 use number::Refusal;
-use rules::Head;
+use rule::Head;
 use site::BasicConcept;
 use site::BasicRole;
 use tables::BLANK;

@@ -16,7 +16,7 @@ use Rattle.number.proofs.Writing.{picked}
 use Rattle.site.specs.declared.fact.Fact.{Fact}
 use Rattle.site.specs.Codes.{conceptDeclared, roleDeclared}
 use Rattle.site.specs.Limits.{mostThing, mostFacts}
-use Rattle.rules.specs.declared.head.Head.{Head}
+use Rattle.rule.specs.declared.head.Head.{Head}
 use Rattle.rules.specs.RuleFile.{checkRules, siteOf}
 use Rattle.rules.proofs.Refusals.{refused-in-rules}
 use Rattle.bundle.proofs.Refusals.{refused-in-bundle}

@@ -15,7 +15,8 @@ use Rattle.number.specs.Number.{formOf, second, third, numberAt, bytesOf}
 use Rattle.site.specs.Codes.{roleOf, conceptOf, conceptDeclared, predicateDeclared}
 use Rattle.site.specs.Lists.{upTo, any, count, keep, first, each}
 use Rattle.site.specs.Items.{testedAt, atMost, itemsFrom, endAt}
-use Rattle.rules.specs.RuleFile.{headOf, codeDeclared, ruleAt, nextRule, rulesIn, nextUnbroken, afterRules, checkRules, siteOf}
+use Rattle.rule.specs.OneRule.{headOf, codeDeclared, ruleAt}
+use Rattle.rules.specs.RuleFile.{nextRule, rulesIn, nextUnbroken, afterRules, checkRules, siteOf}
 use Rattle.bundle.specs.Bundle.{factAt, nextFact, factsIn, checkBundle, readBundle, factBytes, bundleOf}
 use Rattle.bundle.specs.Opened.{opening}
 use Rattle.writer.specs.Records.{roomFor, recordFault, recordsFrom, planRecords}

@@ -14,7 +14,7 @@ use Rattle.number.specs.Answer.Answer.{gives, refuses}
 use Rattle.number.proofs.Answers.{given-once as same-given, went, passed}
 use Rattle.site.specs.declared.fact.Fact.{Fact}
 use Rattle.site.specs.Items.{onward}
-use Rattle.rules.specs.declared.head.Head.{Head}
+use Rattle.rule.specs.declared.head.Head.{Head}
 use Rattle.bundle.specs.Bundle.{factAt, factsIn, factsOf}
 use Rattle.bundle.specs.Opened.{opening, Accepted}
 use Rattle.bundle.specs.declared.facts.Facts.{Facts}

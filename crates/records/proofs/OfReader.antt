@@ -19,7 +19,7 @@ use Rattle.site.specs.Items.{testedAt, codeAt}
 use Rattle.site.specs.Limits.{mostThing}
 use Rattle.site.proofs.There.{tested-there}
 use Rattle.rules.specs.RuleFile.{checkRules}
-use Rattle.rules.specs.declared.head.Head.{Head}
+use Rattle.rule.specs.declared.head.Head.{Head}
 use Rattle.bundle.specs.Bundle.{Last, factAt, checkBundle, factsOf}
 use Rattle.bundle.specs.Told.{factRest}
 use Rattle.bundle.specs.declared.facts.Facts.{Facts}

@@ -15,7 +15,7 @@ use Rattle.site.specs.declared.fact.Fact.{Fact}
 use Rattle.site.specs.Kinds.{ofConcept}
 use Rattle.site.specs.Limits.{mostFacts, mostRoles, mostThing}
 use Rattle.rules.specs.RuleFile.{checkRules, siteOf}
-use Rattle.rules.specs.declared.head.Head.{Head}
+use Rattle.rule.specs.declared.head.Head.{Head}
 use Rattle.rules.proofs.AcceptedFile.{accepted-lawful as rules-lawful}
 use Rattle.bundle.specs.Bundle.{Last, ascends, checkBundle, factsOf, predicateKnown, bundleOf}
 use Rattle.bundle.specs.Bundle.Last.{none, after}

@@ -12,7 +12,7 @@ use Rattle.number.specs.declared.refusal.Refusal.{Refusal}
 use Rattle.site.specs.declared.fact.Fact.{Fact}
 use Rattle.rules.specs.RuleFile.{checkRules}
 use Rattle.rules.specs.Told.{rulesTold}
-use Rattle.rules.specs.declared.head.Head.{Head}
+use Rattle.rule.specs.declared.head.Head.{Head}
 use Rattle.rules.specs.declared.check.RulesRead.{RulesRead}
 use Rattle.rules.specs.declared.check.RulesRead.the-variants.{Accepted, Refused}
 use Rattle.writer.specs.Pushed.{startOf, judged, placed, storedBy, stateAfter, memoryAfter, secondStart, countStored, answerOf, Pushes, Begins, wroteTold, firstState, lastState, lastMemory}

@@ -7,7 +7,7 @@ use lib.ListN.{length}
 use Rattle.number.specs.Answer.{Answer, noRefusal, over, laid}
 use Rattle.number.specs.Answer.Answer.{gives, refuses}
 use Rattle.rules.specs.RuleFile.{checkRules}
-use Rattle.rules.specs.declared.head.Head.{Head}
+use Rattle.rule.specs.declared.head.Head.{Head}
 use Rattle.writer.specs.Pushed.{startOf, stateAfter, memoryAfter, secondStart, countStored, answerOf}
 use Rattle.writer.specs.declared.writing.Writing.{Writing}
 use Rattle.records.specs.Told.{rowAnswer}

@@ -8,7 +8,7 @@ ghost use Rattle.records.specs.Written.{opened, TurnsOver, ended};
 use crate::answer::RowAnswer;
 use crate::record::Record;
 use number::Refusal;
-use rules::Head;
+use rule::Head;
 use rules::RulesRead;
 use rules::check_rules;
 use writer::BundleWrote;

@@ -8,7 +8,7 @@ use records::end_row;
 use records::open_row;
 use records::push_record;
 use records::turn_over;
-use rules::Head;
+use rule::Head;
 use writer::Writing;
 
 // One pass over so many records of a row.

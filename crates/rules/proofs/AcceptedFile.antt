@@ -13,10 +13,12 @@ use Rattle.site.specs.Kinds.{Rule, Site, roleIn}
 use Rattle.site.specs.Items.{itemsFrom, endAt, onward}
 use Rattle.site.proofs.Lists.{any-of}
 use Rattle.site.proofs.There.{end-there}
-use Rattle.rules.specs.Lawful.{Lawful, ruleDeclared}
-use Rattle.rules.specs.RuleFile.{headOf, ruleAt, rulesFrom, rulesIn, onRight, broken, nextUnbroken, unbroken, afterRules, checkRules, siteOf}
-use Rattle.rules.specs.declared.head.Head.{Head}
-use Rattle.rules.proofs.Accepted.{rule-is-declared, head-within}
+use Rattle.rule.specs.OneRule.{ruleDeclared}
+use Rattle.rules.specs.Lawful.{Lawful}
+use Rattle.rule.specs.OneRule.{headOf, ruleAt}
+use Rattle.rules.specs.RuleFile.{rulesFrom, rulesIn, onRight, broken, nextUnbroken, unbroken, afterRules, checkRules, siteOf}
+use Rattle.rule.specs.declared.head.Head.{Head}
+use Rattle.rule.proofs.Accepted.{rule-is-declared, head-within}
 
 -- every rule that is read is declared, whatever the site's other rules
 module _ (h : Head) (s : List ℕ) (rules : List Rule) where

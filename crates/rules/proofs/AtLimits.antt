@@ -10,8 +10,9 @@ use Rattle.site.specs.Kinds.Rule.{included, disjoint, roleIncluded, roleDisjoin
 use Rattle.site.specs.Codes.{roleOf, conceptOf, conceptDeclared}
 use Rattle.site.specs.Items.{testedAt, atMost, itemsFrom, endAt}
 use Rattle.site.specs.Lists.{any}
-use Rattle.rules.specs.RuleFile.{headOf, codeDeclared, ruleAt, nextRule, rulesIn, nextUnbroken, afterRules, checkRules, siteOf}
-use Rattle.rules.specs.declared.head.Head.{Head}
+use Rattle.rule.specs.OneRule.{headOf, codeDeclared, ruleAt}
+use Rattle.rules.specs.RuleFile.{nextRule, rulesIn, nextUnbroken, afterRules, checkRules, siteOf}
+use Rattle.rule.specs.declared.head.Head.{Head}
 use Rattle.rules.proofs.Cases.{Case, is, refused, refusedIn}
 use Rattle.rules.proofs.Exact.{whole, whole-accepted}
 

@@ -1,7 +1,7 @@
 -- What one turn of each walk over the rules says of the whole, and what stands after the last rule.
 use Prim.Native.Nat.{ℕ, suc, _+_, _-_, _/_, _≤_, _<_, min}
 use mathlib.Core.Path.{_≡_, refl, sym, ap, _∙_}
-use mathlib.Core.Bool.{Bool, true, false, cond, _||_, or-false, or-true, or-assoc}
+use mathlib.Core.Bool.{Bool, true, false, _||_, or-false, or-true, or-assoc}
 use mathlib.Core.List.{List, [], _∷_}
 use lib.ListN.{length, getD, set, length-set, replicate, getD-replicate}
 use lib.Seq.{getD-set-same, getD-set-other}
@@ -15,7 +15,7 @@ use Rattle.number.specs.Answer.Answer.{gives, refuses}
 use Rattle.number.specs.declared.refusal.Refusal.{Refusal}
 use Rattle.site.specs.Kinds.{Rule as SaidRule, roleIn}
 use Rattle.site.specs.Kinds.Rule.{included, disjoint, roleIncluded, roleDisjoint, functional}
-use Rattle.site.specs.Items.{itemsFrom, endAt, onward}
+use Rattle.site.specs.Items.{endAt, onward}
 use Rattle.site.specs.Lists.{any}
 use Rattle.site.specs.Limits.{mostRoles}
 use Rattle.site.specs.Told.{ruleTold, endTold}
@@ -27,16 +27,18 @@ use Rattle.site.specs.declared.rule.Rule.{Rule}
 use Rattle.site.specs.declared.rule.Rule.the-variants.{RoleIncluded, Functional}
 use Rattle.site.proofs.Numbered.{Left, left-all, left-none, left-refused, left-next}
 use Rattle.site.proofs.OfKinds.{role-number}
-use Rattle.rules.proofs.Accepted.{rule-is-declared, head-roles}
-use Rattle.rules.specs.RuleFile.{headOf, ruleAt, nextRule, rulesFrom, rulesIn, onRight, broken, nextUnbroken, unbroken, afterRules, checkRules}
-use Rattle.rules.specs.Told.{headTold, ruleReadTold, ruleReadRefusal, rulesTold, Rights, rightRole, rightAt, brokenBy}
-use Rattle.rules.specs.declared.head.Head.{Head}
-use Rattle.rules.specs.declared.head.HeadRead.{HeadRead}
-use Rattle.rules.specs.declared.head.HeadRead.the-variants.{Read as HeadIs, Refused as HeadRefused}
+use Rattle.rule.proofs.Accepted.{rule-is-declared, head-roles}
+use Rattle.rule.specs.OneRule.{headOf, ruleAt}
+use Rattle.rules.specs.RuleFile.{nextRule, rulesFrom, rulesIn, onRight, broken, nextUnbroken, unbroken, afterRules, checkRules}
+use Rattle.rule.specs.Told.{headTold, ruleReadTold, ruleReadRefusal}
+use Rattle.rules.specs.Told.{rulesTold, Rights, rightRole, rightAt, brokenBy}
+use Rattle.rule.specs.declared.head.Head.{Head}
+use Rattle.rule.specs.declared.head.HeadRead.{HeadRead}
+use Rattle.rule.specs.declared.head.HeadRead.the-variants.{Read as HeadIs, Refused as HeadRefused}
 use Rattle.rules.specs.declared.check.RulesRead.{RulesRead}
 use Rattle.rules.specs.declared.check.RulesRead.the-variants.{Accepted, Refused as NotAccepted}
-use Rattle.rules.specs.declared.read.RuleRead.{RuleRead}
-use Rattle.rules.specs.declared.read.RuleRead.the-variants.{Read as RuleIs, Refused as RuleRefused}
+use Rattle.rule.specs.declared.read.RuleRead.{RuleRead}
+use Rattle.rule.specs.declared.read.RuleRead.the-variants.{Read as RuleIs, Refused as RuleRefused}
 
 -- the role on the right of one rule
 module _ (rule : Rule) (q : RoleCode) (j : Role) (half : j ≡ record { number = q .code / 2 }) where

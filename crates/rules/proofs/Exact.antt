@@ -15,8 +15,9 @@ use Rattle.site.specs.Codes.{conceptDeclared, ruleOf}
 use Rattle.site.specs.Kinds.{Rule}
 use Rattle.site.specs.Items.{testedAt, atMost, itemsFrom, endAt}
 use Rattle.site.specs.Limits.{lastKind}
-use Rattle.rules.specs.RuleFile.{headOf, codeDeclared, ruleAt, nextRule, rulesIn, nextUnbroken, afterRules, checkRules}
-use Rattle.rules.specs.declared.head.Head.{Head}
+use Rattle.rule.specs.OneRule.{headOf, codeDeclared, ruleAt}
+use Rattle.rules.specs.RuleFile.{nextRule, rulesIn, nextUnbroken, afterRules, checkRules}
+use Rattle.rule.specs.declared.head.Head.{Head}
 use Rattle.rules.proofs.Longest.{longest}
 
 -- so many rules, and what follows them

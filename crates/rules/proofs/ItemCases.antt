@@ -6,7 +6,8 @@ use Rattle.number.specs.Number.{third, second, formOf, numberAt}
 use Rattle.site.specs.Codes.{roleOf, conceptOf, conceptDeclared}
 use Rattle.site.specs.Items.{testedAt, atMost, itemsFrom, endAt}
 use Rattle.site.specs.Lists.{any}
-use Rattle.rules.specs.RuleFile.{headOf, codeDeclared, ruleAt, nextRule, rulesIn, nextUnbroken, afterRules, checkRules}
+use Rattle.rule.specs.OneRule.{headOf, codeDeclared, ruleAt}
+use Rattle.rules.specs.RuleFile.{nextRule, rulesIn, nextUnbroken, afterRules, checkRules}
 use Rattle.rules.proofs.Cases.{Case, refused, refusedIn}
 
 abbrev pub cases : List Case

@@ -1,4 +1,3 @@
-pub mod Accepted
 pub mod AcceptedFile
 pub mod AtLimits
 pub mod Cases
@@ -6,7 +5,6 @@ pub mod Checking
 pub mod Exact
 pub mod Longest
 pub mod OneAnswer
-pub mod Reading
 pub mod Refusals
 pub mod OfFaults
 pub mod ItemCases

@@ -8,7 +8,7 @@ use lib.ListN.{length, take}
 use lib.Dec.{ltb, leb, eqb}
 use native.Mathlib.Omega.{arith}
 use borrow.Author.Tests.{lt-ltb, ltb-true}
-use Rattle.number.specs.Answer.{Read, over, about, _then_}
+use Rattle.number.specs.Answer.{Read, over, about}
 use Rattle.number.specs.Answer.Answer.{gives}
 use Rattle.number.proofs.Answers.{about-given, over-given, Given, given-gives, given-test, given-then, then-same}
 use Rattle.number.proofs.Laws.{Bytes, two-bytes, one-form, one-byte}
@@ -16,9 +16,10 @@ use Rattle.site.specs.Codes.{conceptDeclared, roleDeclared}
 use Rattle.site.specs.Items.{atMost, countAt, codeAt, itemsFrom, endAt}
 use Rattle.site.specs.Limits.{mostNumber, mostConcepts, mostRoles, mostRules, lastKind, functionalKind}
 use Rattle.site.proofs.There.{within-limit, tested-there, count-there, same-tested}
-use Rattle.rules.specs.RuleFile.{headOf, codeDeclared, kindAt, ruleAt, nextRule, rulesFrom, afterRules, checkRules}
-use Rattle.rules.specs.declared.head.Head.{Head}
-use Rattle.rules.proofs.Accepted.{head-within}
+use Rattle.rule.specs.OneRule.{headOf, codeDeclared, kindAt, ruleAt}
+use Rattle.rules.specs.RuleFile.{nextRule, rulesFrom, afterRules, checkRules}
+use Rattle.rule.specs.declared.head.Head.{Head}
+use Rattle.rule.proofs.Accepted.{head-within}
 use Rattle.rules.proofs.AcceptedFile.{accepted-rules}
 
 -- 4 bytes of the counts, and 3 for each of 512 rules

@@ -14,8 +14,9 @@ use Rattle.site.proofs.InFile.{OfNone, tested-of-none, end-of-none}
 use Rattle.site.proofs.Numbered.{of-item}
 use Rattle.rules.specs.Faults.{RulesFault}
 use Rattle.rules.specs.Faults.RulesFault.{in-header, in-rule, after-last, of-functional}
-use Rattle.rules.specs.RuleFile.{headOf, nextRule, rulesFrom, rulesIn, nextUnbroken, unbroken, afterRules, checkRules}
-use Rattle.rules.specs.declared.head.Head.{Head}
+use Rattle.rule.specs.OneRule.{headOf}
+use Rattle.rules.specs.RuleFile.{nextRule, rulesFrom, rulesIn, nextUnbroken, unbroken, afterRules, checkRules}
+use Rattle.rule.specs.declared.head.Head.{Head}
 
 module _ (s : List ℕ) where
   head-of-none : Refuses OfNone (headOf s)

@@ -13,13 +13,15 @@ use Rattle.site.specs.Told.{ruleTold}
 use Rattle.site.proofs.OfCodes.{role-code, concept-code}
 use Rattle.site.specs.declared.rule.Rule.{Rule}
 use Rattle.site.specs.declared.rule.Rule.the-variants.{Included, Disjoint, RoleIncluded, RoleDisjoint, Functional}
-use Rattle.rules.specs.RuleFile.{headOf, ruleAt, checkRules}
-use Rattle.rules.specs.Told.{headTold, ruleReadTold, rulesTold}
-use Rattle.rules.specs.declared.head.Head.{Head}
-use Rattle.rules.specs.declared.head.HeadRead.{HeadRead}
-use Rattle.rules.specs.declared.head.HeadRead.the-variants.{Read as HeadIs, Refused as HeadRefused}
-use Rattle.rules.specs.declared.read.RuleRead.{RuleRead}
-use Rattle.rules.specs.declared.read.RuleRead.the-variants.{Read as RuleIs, Refused as RuleRefused}
+use Rattle.rule.specs.OneRule.{headOf, ruleAt}
+use Rattle.rules.specs.RuleFile.{checkRules}
+use Rattle.rule.specs.Told.{headTold, ruleReadTold}
+use Rattle.rules.specs.Told.{rulesTold}
+use Rattle.rule.specs.declared.head.Head.{Head}
+use Rattle.rule.specs.declared.head.HeadRead.{HeadRead}
+use Rattle.rule.specs.declared.head.HeadRead.the-variants.{Read as HeadIs, Refused as HeadRefused}
+use Rattle.rule.specs.declared.read.RuleRead.{RuleRead}
+use Rattle.rule.specs.declared.read.RuleRead.the-variants.{Read as RuleIs, Refused as RuleRefused}
 use Rattle.rules.specs.declared.check.RulesRead.{RulesRead}
 use Rattle.rules.specs.declared.check.RulesRead.the-variants.{Accepted, Refused}
 

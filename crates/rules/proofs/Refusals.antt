@@ -1,14 +1,14 @@
 -- Where a rule file's refusal stands: on side 0, at one of the bytes, or for refusal 1 at their end. Said of every answer on the way,
 -- refusals 7 and 6 after the last rule among them, and put together as the reading is.
-use Prim.Native.Nat.{ℕ, zero, suc, _≤_, _<_}
+use Prim.Native.Nat.{ℕ, _≤_, _<_}
 use mathlib.Core.Logic.{_⊎_, inl, inr}
 use mathlib.Core.Path.{_≡_, refl}
-use mathlib.Core.Bool.{Bool, cond}
+use mathlib.Core.Bool.{Bool}
 use mathlib.Core.List.{List}
 use lib.ListN.{length}
 use lib.Dec.{eqb}
 use native.Mathlib.Omega.{arith}
-use Rattle.number.specs.Answer.{Answer, Read, refusal, over, _then_}
+use Rattle.number.specs.Answer.{Answer, Read, refusal}
 use Rattle.number.specs.Answer.Answer.{gives, refuses}
 use Rattle.number.specs.declared.refusal.Refusal.{Refusal}
 use Rattle.number.proofs.Answers.{went, not-stopped, given-once, over-given, Given, given-gives, given-test, given-then}
@@ -17,8 +17,9 @@ use Rattle.site.specs.Kinds.{Rule}
 use Rattle.site.specs.Items.{atMost, countAt, codeAt, endAt}
 use Rattle.site.specs.Limits.{mostConcepts, mostRoles, mostRules, lastKind, functionalKind}
 use Rattle.site.proofs.InFile.{InFile, at-a-byte, tested-placed, items-placed, end-placed, after-tested, tested-starts}
-use Rattle.rules.specs.RuleFile.{headOf, codeDeclared, kindAt, ruleAt, nextRule, rulesFrom, rulesIn, broken, nextUnbroken, unbroken, afterRules, checkRules}
-use Rattle.rules.specs.declared.head.Head.{Head}
+use Rattle.rule.specs.OneRule.{headOf, codeDeclared, kindAt, ruleAt}
+use Rattle.rules.specs.RuleFile.{nextRule, rulesFrom, rulesIn, broken, nextUnbroken, unbroken, afterRules, checkRules}
+use Rattle.rule.specs.declared.head.Head.{Head}
 
 -- the numbers of a rule file's refusals: 1 to 7, and 11
 abbrev pub OfRules : ℕ → Type 0
@@ -107,7 +108,7 @@ module _ (s : List ℕ) where
         omega (arith, rule-inside at (o .value) (o .given), o .told)
 
     rules-placed : (n at : ℕ) → at ≤ length s → Placed (rulesFrom h s n at)
-    rules-placed = items-placed 0 OfRules s (nextRule h s) (λ at. at ≤ length s) next-placed (λ at next inside. next-inside at next) 0
+    rules-placed = items-placed 0 OfRules s (nextRule h s) (λ at. at ≤ length s) next-placed (λ at next inside. next-inside at next)
 
     -- refusal 6
     module _ (rules : List Rule) where
@@ -127,7 +128,7 @@ module _ (s : List ℕ) where
           omega (arith, rule-inside at (w .value) (w .first), same)
 
       unbroken-placed : (n at : ℕ) → at ≤ length s → Placed (unbroken h s rules n at)
-      unbroken-placed = items-placed 0 OfRules s (nextUnbroken h s rules) (λ at. at ≤ length s) unbroken-one (λ at next inside. unbroken-inside at next) 0
+      unbroken-placed = items-placed 0 OfRules s (nextUnbroken h s rules) (λ at. at ≤ length s) unbroken-one (λ at next inside. unbroken-inside at next)
 
   -- refusal 7
   after-placed : (h : Head) (end : ℕ) → h .start ≤ length s → Placed (afterRules s h end)

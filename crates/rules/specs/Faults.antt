@@ -7,8 +7,9 @@ use Rattle.number.specs.Answer.{noItem}
 use Rattle.number.specs.Answer.Answer.{gives, refuses}
 use Rattle.number.specs.declared.refusal.Refusal.{Refusal}
 use Rattle.site.specs.Items.{OfItem, endAt}
-use Rattle.rules.specs.RuleFile.{headOf, nextRule, rulesFrom, rulesIn, nextUnbroken}
-use Rattle.rules.specs.declared.head.Head.{Head}
+use Rattle.rule.specs.OneRule.{headOf}
+use Rattle.rules.specs.RuleFile.{nextRule, rulesFrom, rulesIn, nextUnbroken}
+use Rattle.rule.specs.declared.head.Head.{Head}
 
 pub data RulesFault (s : List ℕ) (r : Refusal) : Type 0 where
   -- "65,535 in the header"

@@ -1,20 +1,12 @@
 -- What an accepted rule file's rules are: within the limits, of declared codes, and with no functional role on the right of an inclusion.
 use Prim.Native.Nat.{_≤_}
 use mathlib.Core.Path.{_≡_}
-use mathlib.Core.Bool.{Bool, true, _&&_}
+use mathlib.Core.Bool.{true}
 use mathlib.Core.List.{List·Memᴰ}
-use Rattle.site.specs.Kinds.{BasicRole, Rule, Site, roleIn, declared, declaredRole}
-use Rattle.site.specs.Kinds.Node.{concept}
-use Rattle.site.specs.Kinds.Rule.{included, disjoint, roleIncluded, roleDisjoint, functional}
+use Rattle.site.specs.Kinds.{BasicRole, Rule, Site, roleIn}
+use Rattle.site.specs.Kinds.Rule.{roleIncluded, functional}
 use Rattle.site.specs.Limits.{mostConcepts, mostRoles}
-
--- "A code above its kind's range is undeclared": every code of the rule is declared
-abbrev pub ruleDeclared : Site → Rule → Bool
-ruleDeclared s (included b c) = declared s (concept b) && declared s (concept c)
-ruleDeclared s (disjoint b c) = declared s (concept b) && declared s (concept c)
-ruleDeclared s (roleIncluded p q) = declaredRole s p && declaredRole s q
-ruleDeclared s (roleDisjoint p q) = declaredRole s p && declaredRole s q
-ruleDeclared s (functional q) = declaredRole s q
+use Rattle.rule.specs.OneRule.{ruleDeclared}
 
 -- rules that a rule file may hold
 pub record Lawful (s : Site) : Type 0 where

@@ -5,37 +5,18 @@ use mathlib.Core.Bool.{Bool, false, _&&_}
 use mathlib.Core.List.{List}
 use lib.ListN.{getD, length}
 use lib.Dec.{ltb}
-use Rattle.number.specs.Answer.{Answer, Read, noRefusal}
+use Rattle.number.specs.Answer.{Answer, Read}
 use Rattle.number.specs.Answer.Answer.{gives, refuses}
-use Rattle.number.specs.declared.refusal.Refusal.{Refusal}
 use Rattle.site.specs.Kinds.{Rule, roleIn}
 use Rattle.site.specs.Kinds.Rule.{included, disjoint, roleIncluded, roleDisjoint, functional}
 use Rattle.site.specs.Lists.{any}
 use Rattle.site.specs.Limits.{mostRoles}
-use Rattle.site.specs.Told.{ruleTold}
 use Rattle.rules.specs.RuleFile.{onRight}
-use Rattle.rules.specs.declared.head.Head.{Head}
-use Rattle.rules.specs.declared.head.HeadRead.{HeadRead}
-use Rattle.rules.specs.declared.head.HeadRead.the-variants.{Read as HeadIs, Refused as HeadRefused}
-use Rattle.rules.specs.declared.read.RuleRead.{RuleRead}
-use Rattle.rules.specs.declared.read.RuleRead.the-variants.{Read as RuleIs, Refused as RuleRefused}
+use Rattle.rule.specs.declared.head.Head.{Head}
+use Rattle.rule.specs.declared.head.HeadRead.{HeadRead}
+use Rattle.rule.specs.declared.read.RuleRead.{RuleRead}
 use Rattle.rules.specs.declared.check.RulesRead.{RulesRead}
 use Rattle.rules.specs.declared.check.RulesRead.the-variants.{Accepted, Refused}
-
--- a head, or the refusal
-abbrev pub headTold : HeadRead → Answer Head
-headTold (HeadIs h) = gives h
-headTold (HeadRefused r) = refuses r
-
--- a rule with the place after it, or the refusal
-abbrev pub ruleReadTold : RuleRead → Answer (Read Rule)
-ruleReadTold (RuleIs rule next) = gives (record { value = ruleTold rule; next = next })
-ruleReadTold (RuleRefused r) = refuses r
-
--- the refusal in it; there is none in a rule
-abbrev pub ruleReadRefusal : RuleRead → Refusal
-ruleReadRefusal (RuleIs rule next) = noRefusal
-ruleReadRefusal (RuleRefused r) = r
 
 -- an accepted rule file's head, or the refusal
 abbrev pub rulesTold : RulesRead → Answer Head

@@ -1,6 +1,6 @@
 -- Where a file's refusal stands: on the file's side, at one of its bytes, or for refusal 1 at their end, with one of the numbers that the file's
 -- table has. Said of a number, one with a test, the items and the end; the readings of each file put it together.
-use Prim.Native.Nat.{ℕ, zero, suc, _+_, _≤_, _<_}
+use Prim.Native.Nat.{ℕ, _≤_, _<_}
 use mathlib.Core.Path.{_≡_, refl, sym, ap, _∙_}
 use mathlib.Core.Bool.{Bool, true, false}
 use mathlib.Core.List.{List}
@@ -12,12 +12,13 @@ use Rattle.number.specs.Answer.{Answer, Read, refusal, noItem, ofItem, about}
 use Rattle.number.specs.Answer.Answer.{gives, refuses}
 use Rattle.number.specs.Number.{formOf, numberAt}
 use Rattle.number.specs.declared.refusal.Refusal.{Refusal}
-use Rattle.number.proofs.Answers.{same-refused, about-given}
+use Rattle.number.proofs.Answers.{same-refused}
 use Rattle.number.proofs.Laws.{bounds, refused-how}
-use Rattle.number.proofs.Refusing.{Refuses, refuses-gives, refuses-so, refuses-test, refuses-tested, refuses-about, refuses-then}
+use Rattle.number.proofs.Refusing.{Refuses, refuses-gives, refuses-so, refuses-test, refuses-tested, refuses-then}
 use Rattle.number.proofs.Writing.{picked}
 use Rattle.site.specs.Items.{testedAt, endAt, itemsFrom}
 use Rattle.site.specs.Limits.{mostNumber}
+use Rattle.site.proofs.Numbered.{items-refuse}
 use Rattle.site.proofs.There.{tested-there}
 
 -- a refusal of the file, with one of its numbers, at one of its bytes or at their end
@@ -75,13 +76,9 @@ module _ (file : ℕ) (Listed : ℕ → Type 0) (s : List ℕ) where
   any-item k r i = record { side = i .side; place = i .place; low = i .low; listed = i .listed; at-byte = i .at-byte }
 
   -- the items: what holds of where each is read from holds of where the next is
-  module _ {A : Type 0} (read : A → Answer A) (Here : A → Type 0) (placed : (x : A) → Here x → Placed (read x)) (on : (x y : A) → Here x → read x ≡ gives y → Here y) where
-    pub items-placed : (k n : ℕ) (x : A) → Here x → Placed (itemsFrom read k n x)
-    unfolding itemsFrom
-    items-placed k zero x here = refuses-gives _ x
-    items-placed k (suc n) x here =
-        refuses-then _ (about k (read x)) (λ y. itemsFrom read (k + 1) n y) (refuses-about _ any-item k (read x) (placed x here))
-        (λ y e. items-placed (k + 1) n y (on x y here (about-given k (read x) e)))
+  pub items-placed : {A : Type 0} (read : A → Answer A) (Here : A → Type 0) → ((x : A) → Here x → Placed (read x)) → ((x y : A) → Here x → read x ≡ gives y → Here y)
+      → (n : ℕ) (x : A) → Here x → Placed (itemsFrom read 0 n x)
+  items-placed read Here placed on = items-refuse read (InFile file Listed s) any-item Here placed on 0
 
   module _ (of-numbers : (n : ℕ) → n ≤ 3 → Listed n) where
     pub number-placed : (at bound : ℕ) → at ≤ length s → Placed (numberAt s at bound file)

@@ -6,7 +6,8 @@ use native.Mathlib.Omega.{arith}
 use Rattle.number.specs.Answer.{Answer, ofItem, about, _then_}
 use Rattle.number.specs.Answer.Answer.{gives, refuses}
 use Rattle.number.specs.declared.refusal.Refusal.{Refusal}
-use Rattle.number.proofs.Answers.{never, same-refused}
+use Rattle.number.proofs.Answers.{never, same-refused, about-given}
+use Rattle.number.proofs.Refusing.{Refuses, refuses-gives, refuses-about, refuses-then}
 use Rattle.site.specs.Items.{itemsFrom, OfItem}
 
 pub record Left {A : Type 0} (read : A → Answer A) (whole : Answer A) (all left : ℕ) (here : A) : Type 0 where
@@ -87,3 +88,13 @@ module _ {A : Type 0} (read : A → Answer A) where
         refused = s .refused;
         named = s .named ∙ ap (λ (i : ℕ). ofItem i (s .fault)) (sym counts);
       }
+
+  -- what holds of each item's refusal, whichever its number, holds of the walk's; `Here` is what is known of where an item is read from
+  module _ (P : Refusal → Type 0) (any-item : (k : ℕ) (r : Refusal) → P r → P (ofItem k r)) (Here : A → Type 0) (each : (x : A) → Here x → Refuses P (read x))
+      (on : (x y : A) → Here x → read x ≡ gives y → Here y) where
+    pub items-refuse : (k n : ℕ) (x : A) → Here x → Refuses P (itemsFrom read k n x)
+    unfolding itemsFrom
+    items-refuse k zero x here = refuses-gives P x
+    items-refuse k (suc n) x here =
+        refuses-then P (about k (read x)) (λ y. itemsFrom read (k + 1) n y) (refuses-about P any-item k (read x) (each x here))
+        (λ y e. items-refuse (k + 1) n y (on x y here (about-given k (read x) e)))

@@ -10,7 +10,8 @@ use Rattle.site.specs.Kinds.Node.{concept, role}
 use Rattle.site.specs.Kinds.Rule.{functional}
 use Rattle.site.proofs.Lists.{and-left, and-right}
 use Rattle.site.proofs.Same.{roleIn-turned}
-use Rattle.rules.specs.Lawful.{Lawful, ruleDeclared}
+use Rattle.rule.specs.OneRule.{ruleDeclared}
+use Rattle.rules.specs.Lawful.{Lawful}
 use Rattle.steps.specs.Steps.{SaysIncluded, SaysExcluded, Included, Excluded, OneOf}
 use Rattle.steps.specs.Steps.SaysIncluded.{kind-0, kind-2}
 use Rattle.steps.specs.Steps.SaysExcluded.{kind-1, kind-3}

@@ -14,8 +14,9 @@ use Rattle.site.specs.Kinds.Rule.{included, disjoint, functional}
 use Rattle.site.specs.Codes.{roleOf, conceptOf, conceptDeclared, predicateDeclared}
 use Rattle.site.specs.Lists.{any}
 use Rattle.site.specs.Items.{testedAt, atMost, itemsFrom, endAt}
-use Rattle.rules.specs.declared.head.Head.{Head}
-use Rattle.rules.specs.RuleFile.{headOf, codeDeclared, ruleAt, nextRule, rulesIn, nextUnbroken, afterRules, checkRules, siteOf}
+use Rattle.rule.specs.declared.head.Head.{Head}
+use Rattle.rule.specs.OneRule.{headOf, codeDeclared, ruleAt}
+use Rattle.rules.specs.RuleFile.{nextRule, rulesIn, nextUnbroken, afterRules, checkRules, siteOf}
 use Rattle.bundle.specs.Bundle.{factAt, nextFact, factsIn, checkBundle, readBundle}
 use Rattle.clashes.specs.Types.{itself}
 use Rattle.worlds.specs.Worlds.{World, Is, Obeys, Holds, WorldOf, Consistent}

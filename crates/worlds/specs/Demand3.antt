@@ -11,7 +11,7 @@ use Rattle.site.specs.Kinds.{Site}
 use Rattle.site.specs.Kinds.Node.{concept, role}
 use Rattle.site.specs.Codes.{conceptOf, roleOf, conceptDeclared, roleDeclared}
 use Rattle.site.specs.Limits.{mostThing}
-use Rattle.rules.specs.declared.head.Head.{Head}
+use Rattle.rule.specs.declared.head.Head.{Head}
 use Rattle.rules.specs.RuleFile.{checkRules, siteOf}
 use Rattle.bundle.specs.Bundle.{readBundle}
 use Rattle.steps.specs.Tables.{followsOf}

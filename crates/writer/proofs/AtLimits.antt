@@ -16,7 +16,7 @@ use Rattle.site.specs.Codes.{predicateDeclared}
 use Rattle.site.specs.Items.{testedAt, atMost, itemsFrom, endAt}
 use Rattle.site.specs.Limits.{mostThing}
 use Rattle.site.specs.Lists.{each}
-use Rattle.rules.specs.declared.head.Head.{Head}
+use Rattle.rule.specs.declared.head.Head.{Head}
 use Rattle.bundle.specs.Bundle.{Last, ascends, factAt, nextFact, factsIn, checkBundle, readBundle, factBytes, bundleOf}
 use Rattle.bundle.specs.Bundle.Last.{none, after}
 use Rattle.bundle.specs.Lawful.{LawfulFrom}

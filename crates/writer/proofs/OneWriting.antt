@@ -6,7 +6,7 @@ use Rattle.number.specs.Answer.{Answer}
 use Rattle.number.specs.Answer.Answer.{gives, refuses}
 use Rattle.number.proofs.One.{one, undone, Same}
 use Rattle.site.specs.declared.fact.Fact.{Fact}
-use Rattle.rules.specs.declared.head.Head.{Head}
+use Rattle.rule.specs.declared.head.Head.{Head}
 use Rattle.writer.specs.Pushed.{Pushes, wroteTold, answerOf}
 use Rattle.writer.specs.declared.writing.Writing.{Writing}
 use Rattle.writer.specs.declared.writing.BundleWrote.{BundleWrote}

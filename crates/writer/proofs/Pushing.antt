@@ -17,7 +17,7 @@ use Rattle.site.specs.declared.fact.Fact.{Fact}
 use Rattle.site.specs.Limits.{mostFacts, mostRoles}
 use Rattle.site.specs.Lists.{each}
 use Rattle.site.proofs.Lists.{or-left}
-use Rattle.rules.specs.declared.head.Head.{Head}
+use Rattle.rule.specs.declared.head.Head.{Head}
 use Rattle.bundle.specs.Bundle.{Last, factBytes}
 use Rattle.bundle.specs.Bundle.Last.{after}
 use Rattle.bundle.specs.Told.{lastOf}

@@ -20,7 +20,7 @@ use Rattle.site.specs.Codes.{predicateDeclared}
 use Rattle.site.specs.Kinds.{ofConcept}
 use Rattle.site.specs.Limits.{mostFacts, mostNumber, mostThing}
 use Rattle.site.proofs.Lists.{same-test}
-use Rattle.rules.specs.declared.head.Head.{Head}
+use Rattle.rule.specs.declared.head.Head.{Head}
 use Rattle.bundle.specs.Bundle.{Last, ascends, factBytes, predicateKnown}
 use Rattle.bundle.specs.Told.{lastOf, beforeFirst, afterFact}
 use Rattle.bundle.specs.declared.before.Before.{Before}

@@ -11,7 +11,7 @@ use Rattle.number.specs.Answer.Answer.{gives, refuses}
 use Rattle.number.specs.Number.{bytesOf, threeBytes}
 use Rattle.site.specs.declared.fact.Fact.{Fact}
 use Rattle.site.specs.Limits.{mostFacts, mostNumber}
-use Rattle.rules.specs.declared.head.Head.{Head}
+use Rattle.rule.specs.declared.head.Head.{Head}
 use Rattle.bundle.specs.Bundle.{Last, factBytes}
 use Rattle.bundle.specs.Told.{lastOf, beforeFirst, afterFact}
 use Rattle.writer.specs.Records.{recordFault}

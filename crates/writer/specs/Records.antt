@@ -9,7 +9,7 @@ use Rattle.number.specs.Answer.Answer.{gives, refuses}
 use Rattle.site.specs.declared.fact.Fact.{Fact}
 use Rattle.site.specs.Kinds.{ofConcept}
 use Rattle.site.specs.Limits.{mostFacts, mostThing}
-use Rattle.rules.specs.declared.head.Head.{Head}
+use Rattle.rule.specs.declared.head.Head.{Head}
 use Rattle.bundle.specs.Bundle.{Last, ascends, predicateKnown, bundleOf}
 use Rattle.bundle.specs.Bundle.Last.{none, after}
 

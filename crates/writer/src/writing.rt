@@ -13,7 +13,7 @@ use bundle::Before;
 use number::Num;
 use number::Refusal;
 use number::size_of_number;
-use rules::Head;
+use rule::Head;
 use site::Declared;
 use site::Fact;
 

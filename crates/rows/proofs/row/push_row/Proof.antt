@@ -17,9 +17,9 @@ use Rattle.rows.proofs.Locals.{Cell, Hole, Dies}
 use Rattle.rows.proofs.Turns.{slot-fits, next-fits, one-on, sooner}
 use Rattle.records.proofs.Passes.{Passing, pass-starts, pass-on, pass-ends}
 use denote.Struct.Laws as LL
-use Rattle.rules.specs.declared.head.Head.{Head}
-use Rattle.rules.proofs.head.Head as He
-use Rattle.rules.proofs.head.Head.Laws as He′
+use Rattle.rule.specs.declared.head.Head.{Head}
+use Rattle.rule.proofs.head.Head as He
+use Rattle.rule.proofs.head.Head.Laws as He′
 use Rattle.writer.specs.Pushed.{Pushes}
 use Rattle.writer.specs.declared.writing.Writing.{Writing}
 use Rattle.writer.proofs.writing.Writing as Wr

@@ -11,9 +11,9 @@ use Rattle.rows.proofs.Calling.{calls-to}
 use Rattle.rows.proofs.Lending.{slice, calls-lent}
 use Rattle.records.proofs.Passes.{turns-within, writes}
 use denote.Struct.Laws as LL
-use Rattle.rules.specs.declared.head.Head.{Head}
-use Rattle.rules.proofs.head.Head as He
-use Rattle.rules.proofs.head.Head.Laws as He′
+use Rattle.rule.specs.declared.head.Head.{Head}
+use Rattle.rule.proofs.head.Head as He
+use Rattle.rule.proofs.head.Head.Laws as He′
 use Rattle.writer.specs.declared.writing.Writing.{Writing}
 use Rattle.writer.proofs.writing.Writing as Wr
 use Rattle.writer.proofs.writing.Writing.Laws as Wr′

@@ -1,9 +1,9 @@
-use Rattle.rules.proofs.Reading.{reading}
-use Rattle.rules.proofs.read.rule_at.Statement.{statement}
-use Rattle.rules.proofs.read.rule_at.Tie as tie
+use Rattle.rule.proofs.Reading.{reading}
+use Rattle.rule.proofs.head.read_head.Statement.{statement}
+use Rattle.rule.proofs.head.read_head.Tie as tie
 
-pub rule-at-spec : {M : Type 1} → statement M
-rule-at-spec =
+pub read-head-spec : {M : Type 1} → statement M
+read-head-spec =
     tie.close
     (tie.spec
     (λ c κs. search reading)
@@ -18,10 +18,7 @@ rule-at-spec =
     (λ c. search reading)
     (λ c κs. search reading)
     (λ c. search reading)
-    (λ c κs. search reading)
-    (λ c. search reading)
     (λ c. search reading)
     (λ c κs. search reading)
     (λ c. search reading)
-    (λ c κs. search reading)
     (λ c. search reading))

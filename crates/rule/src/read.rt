@@ -2,8 +2,8 @@
 ghost use mathlib.Core.Path.{_≡_};
 ghost use Rattle.number.specs.Told.{told};
 ghost use Rattle.site.specs.Items.{codeAt};
-ghost use Rattle.rules.specs.RuleFile.{codeDeclared, ruleAt};
-ghost use Rattle.rules.specs.Told.{ruleReadTold, ruleReadRefusal};
+ghost use Rattle.rule.specs.OneRule.{codeDeclared, ruleAt};
+ghost use Rattle.rule.specs.Told.{ruleReadTold, ruleReadRefusal};
 use crate::head::Head;
 use number::Num;
 use number::Refusal;

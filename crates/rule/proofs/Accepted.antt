@@ -17,9 +17,9 @@ use Rattle.site.specs.Limits.{mostConcepts, mostRoles, mostRules, lastKind, fun
 use Rattle.site.proofs.Lists.{and-both}
 use Rattle.site.proofs.There.{within-limit, tested-there, count-there}
 use Rattle.site.proofs.OfKinds.{role-declared, concept-declared}
-use Rattle.rules.specs.Lawful.{ruleDeclared}
-use Rattle.rules.specs.RuleFile.{headOf, codeDeclared, kindAt, ruleAt}
-use Rattle.rules.specs.declared.head.Head.{Head}
+use Rattle.rule.specs.OneRule.{ruleDeclared}
+use Rattle.rule.specs.OneRule.{headOf, codeDeclared, kindAt, ruleAt}
+use Rattle.rule.specs.declared.head.Head.{Head}
 
 below-4 : (n : ℕ) → n ≤ 4 → (n ≡ 4 → ⊥) → n < 4
 below-4 n h k = omega arith

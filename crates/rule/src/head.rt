@@ -1,7 +1,7 @@
 // The head of a rule file: how many concepts and roles it declares, how many rules follow, and where they start.
 ghost use mathlib.Core.Path.{_≡_};
-ghost use Rattle.rules.specs.RuleFile.{headOf, codeDeclared};
-ghost use Rattle.rules.specs.Told.{headTold};
+ghost use Rattle.rule.specs.OneRule.{headOf, codeDeclared};
+ghost use Rattle.rule.specs.Told.{headTold};
 use number::Num;
 use number::Refusal;
 use site::Concept;

@@ -19,12 +19,12 @@ use Rattle.site.specs.Told.{ruleTold}
 use Rattle.site.specs.declared.nodes.Declared.{Declared}
 use Rattle.site.specs.declared.rule.Rule.{Rule}
 use Rattle.site.proofs.OfItems.{tested-refused, tested-passes, tested-fails}
-use Rattle.rules.specs.RuleFile.{headOf, codeDeclared, kindAt, ruleAt}
-use Rattle.rules.specs.Told.{headTold, ruleReadTold, ruleReadRefusal}
-use Rattle.rules.specs.declared.head.Head.{Head}
-use Rattle.rules.specs.declared.head.HeadRead.the-variants.{Read as HeadIs, Refused as HeadRefused}
-use Rattle.rules.specs.declared.read.RuleRead.{RuleRead}
-use Rattle.rules.specs.declared.read.RuleRead.the-variants.{Read as RuleIs, Refused as RuleRefused}
+use Rattle.rule.specs.OneRule.{headOf, codeDeclared, kindAt, ruleAt}
+use Rattle.rule.specs.Told.{headTold, ruleReadTold, ruleReadRefusal}
+use Rattle.rule.specs.declared.head.Head.{Head}
+use Rattle.rule.specs.declared.head.HeadRead.the-variants.{Read as HeadIs, Refused as HeadRefused}
+use Rattle.rule.specs.declared.read.RuleRead.{RuleRead}
+use Rattle.rule.specs.declared.read.RuleRead.the-variants.{Read as RuleIs, Refused as RuleRefused}
 
 -- a rule has no refusal
 pub rule-no-refusal : (e : RuleRead) (r : Rule) (next : ℕ) → e ≡ RuleIs r next → noRefusal ≡ ruleReadRefusal e

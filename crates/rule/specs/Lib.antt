@@ -1,0 +1,2 @@
+pub mod OneRule
+pub mod Told
