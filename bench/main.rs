@@ -10,7 +10,8 @@ mod sql;
 use make::{bundle_bytes, make_facts, make_site, rule_bytes, Things};
 use plain::{follow, mark_hashed, mark_pairs, read_site, Marks, Site, NODES};
 use std::hint::black_box;
-use text::rules::{check_rules, Head, RulesRead};
+use text::rule::Head;
+use text::rules::{check_rules, RulesRead};
 
 /// The seconds that one measurement lasts at least, how many there are of each action in a turn, and the turns.
 const LONG: f64 = 0.002;

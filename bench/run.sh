@@ -1,11 +1,10 @@
 #!/usr/bin/env bash
 # Measures the library's text, compiled as plain Rust, beside plain Rust, SQL and, on x86-64, the archive, and prints the results; with KEEP=1
-# it writes them to bench/RESULTS.md instead. Which case it is at is said on standard error. No network, no registry crates.
+# it writes them to bench/RESULTS.md instead. Which case it is at is said on standard error. No network, no registry crates. With BUILD=only,
+# as in the gate, it measures nothing: all of it must compile.
 set -eu
 cd "$(dirname "$0")/.."
 tools/need.sh python3 rustc gcc rt
-command -v sqlite3 >/dev/null || tools/not-run.sh "the same cleaning as SQL" "the command sqlite3 is missing (Debian package sqlite3)" >&2
-[ "$(uname -m)" = x86_64 ] || tools/not-run.sh "the archive's times" "the archive is for x86-64, this machine is $(uname -m); its marks are compared" >&2
 built=target/bench
 rm -rf "$built/text"
 python3 bench/translate.py "$built/text"
@@ -14,6 +13,9 @@ compile --crate-type rlib --crate-name text "$built/text/lib.rs" -o "$built/libt
 compile --extern "text=$built/libtext.rlib" bench/main.rs -o "$built/bench"
 tools/archive.sh
 tools/x86.sh build no "$built/archive" bench/archive.c target/staticlib/libdzyunagor.a
+[ "${BUILD:-}" != only ] || exit 0
+command -v sqlite3 >/dev/null || tools/not-run.sh "the same cleaning as SQL" "the command sqlite3 is missing (Debian package sqlite3)" >&2
+[ "$(uname -m)" = x86_64 ] || tools/not-run.sh "the archive's times" "the archive is for x86-64, this machine is $(uname -m); its marks are compared" >&2
 ARCHIVE=$(tools/x86.sh command "$built/archive")
 export ARCHIVE
 

@@ -37,7 +37,9 @@ def without_clauses(lines):
 def translated(text, crate):
     lines = [line for line in text.splitlines() if not line.startswith("ghost use ")]
     body = "\n".join(without_clauses(lines)) + "\n"
-    body = PATH.sub(lambda found: "crate::" + (crate if found[1] == "crate" else found[1]) + "::", body)
+    # a crate's own module goes before a crate of the same name
+    own = re.findall(r"^mod (\w+);$", body, flags=re.M)
+    body = PATH.sub(lambda found: found[0] if found[1] in own else "crate::" + (crate if found[1] == "crate" else found[1]) + "::", body)
     body = re.sub(r"^(pub )?(struct|enum) ", r"#[derive(Clone, Copy)]\n\g<0>", body, flags=re.M)
     return body.replace("#[no_mangle]\n", "").replace('pub extern "C" fn', "pub fn")
 
