@@ -97,23 +97,22 @@ class Refusals(unittest.TestCase):
         self.assertEqual(clean_with(output, folder), (2, "", message))
         self.assertEqual(clean_with(output, folder, "--explain", "0"), (2, "", message))
 
-    def test_in_rules(self):
+    def all_told(self, cases, side, word, numbers, in_items):
+        """Each case is told; there are all these numbers, and these in each of the three items."""
         seen = set()
-        for rules, number, place, where, words in in_rules():
-            with self.subTest(rules=rules.hex(" ")):
-                self.told(rules, F, "rules", number, place, where, words)
+        for data, number, place, where, words in cases:
+            with self.subTest(data=data.hex(" ")):
+                rules, bundle = (data, F) if side == "rules" else (R, data)
+                self.told(rules, bundle, side, number, place, where, words)
             seen.add((number, where))
-        self.assertEqual({number for number, _ in seen}, {1, 2, 3, 4, 5, 6, 7, 11})
-        self.assertTrue(all((number, f"in rule {rule}") in seen for number in (1, 2, 3, 5, 6, 11) for rule in range(3)))
+        self.assertEqual({number for number, _ in seen}, numbers)
+        self.assertTrue(all((number, f"in {word} {item}") in seen for number in in_items for item in range(3)))
+
+    def test_in_rules(self):
+        self.all_told(in_rules(), "rules", "rule", {1, 2, 3, 4, 5, 6, 7, 11}, (1, 2, 3, 5, 6, 11))
 
     def test_in_bundle(self):
-        seen = set()
-        for bundle, number, place, where, words in in_bundle():
-            with self.subTest(bundle=bundle.hex(" ")):
-                self.told(R, bundle, "bundle", number, place, where, words)
-            seen.add((number, where))
-        self.assertEqual({number for number, _ in seen}, {1, 2, 3, 4, 5, 7, 8})
-        self.assertTrue(all((number, f"in fact {fact}") in seen for number in (1, 2, 3, 5) for fact in range(3)))
+        self.all_told(in_bundle(), "bundle", "fact", {1, 2, 3, 4, 5, 7, 8}, (1, 2, 3, 5))
 
     def test_an_item_far_in(self):
         rules = bytes.fromhex("01 00 80 04") + bytes(511 * 3)

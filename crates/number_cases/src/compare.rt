@@ -6,7 +6,7 @@ use crate::expected::digit;
 // What stands around the bytes that are written.
 const GUARD: u8 = 165;
 
-// A reading is the expected one, of the rules from their first byte on.
+// A reading is the expected one, of the rules from their first byte on; a number by itself is in no item.
 fn same(r: number::Num, e: Wanted) -> bool {
     match r {
         number::Num::Value(value, next) => {
@@ -23,6 +23,9 @@ fn same(r: number::Num, e: Wanted) -> bool {
                 return false;
             }
             if f.side != number::Refusal::RULES {
+                return false;
+            }
+            if f.item != number::Refusal::NO_ITEM {
                 return false;
             }
             f.place == 0
@@ -91,6 +94,9 @@ pub fn stopped(e: Wanted) -> bool
                 return false;
             }
             if f.place != 0 {
+                return false;
+            }
+            if f.item != number::Refusal::NO_ITEM {
                 return false;
             }
             holds(&out, 0, 0)

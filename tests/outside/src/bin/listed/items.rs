@@ -1,13 +1,12 @@
 //! Which rule or fact a refusal names, written out by hand: each refusal in the first, a middle and the last item, in the counts and
-//! after the end, from every operation that reads the file.
+//! after the end, from every operation that reads the file. Document 01's own refusals are in `written.rs`, and go the same way.
 
 use crate::written::{bytes, refused, Held, RefusedFile, Told, NONE, R};
 use outside::cleaner::{Record, Refusal};
 use outside::codes::{BUNDLE_SIDE, RULES_SIDE};
 
 /// Of `02 02 03 | 00 00 01 | 03 02 00 | 04 01`: three rules, at 3, 6 and 9.
-const RULES_CUT: [RefusedFile; 13] = [
-    ("", 1, 0, NONE),
+const RULES_CUT: [RefusedFile; 12] = [
     ("82", 1, 0, NONE),
     ("02", 1, 1, NONE),
     ("02 02", 1, 2, NONE),
@@ -74,12 +73,10 @@ const RULES_WHOLE: [RefusedFile; 12] = [
 ];
 
 /// Under R, of `03 | 01 07 | 40 09 07 | 40 09 08`: three facts, at 1, 3 and 6.
-const BUNDLE_CUT: [RefusedFile; 13] = [
-    ("", 1, 0, NONE),
+const BUNDLE_CUT: [RefusedFile; 11] = [
     ("83", 1, 0, NONE),
     ("80 80", 1, 0, NONE),
     ("03", 1, 1, 0),
-    ("80 20", 1, 2, 0),
     ("03 01", 1, 2, 0),
     ("03 01 07", 1, 3, 1),
     ("03 01 07 40", 1, 4, 1),
@@ -90,11 +87,10 @@ const BUNDLE_CUT: [RefusedFile; 13] = [
     ("03 01 07 40 09 07 40 09 88", 1, 8, 2),
 ];
 
-const FACT_NUMBERS: [RefusedFile; 19] = [
+const FACT_NUMBERS: [RefusedFile; 18] = [
     ("83 00", 2, 0, NONE),
     ("80 80 04", 3, 0, NONE),
     ("80 80 80", 3, 0, NONE),
-    ("81 20", 4, 0, NONE),
     ("03 81 00 07 40 09 07 40 09 08", 2, 1, 0),
     ("03 01 87 00 40 09 07 40 09 08", 2, 2, 0),
     ("03 01 07 C0 00 09 07 40 09 08", 2, 3, 1),
@@ -113,7 +109,7 @@ const FACT_NUMBERS: [RefusedFile; 19] = [
 ];
 
 /// Two faults, of which the first is given; a fact that is not above the one before it, as a middle and the last; bytes after all.
-const FACTS_WHOLE: [RefusedFile; 12] = [
+const FACTS_WHOLE: [RefusedFile; 11] = [
     ("03 01 07 41 09 07 02 09", 5, 3, 1),
     ("03 01 07 01 06 02 09", 8, 3, 1),
     ("03 01 07 01 07 40 09 08", 8, 3, 1),
@@ -124,20 +120,22 @@ const FACTS_WHOLE: [RefusedFile; 12] = [
     ("03 01 07 40 09 07 40 09 07 00", 8, 6, 2),
     ("03 01 07 40 09 07 40 09 08 00", 7, 9, NONE),
     ("03 01 07 40 09 07 40 09 08 80 80 80", 7, 9, NONE),
-    ("00 00", 7, 1, NONE),
     ("00 80 00", 7, 1, NONE),
 ];
 
 pub fn run(held: &mut Held) -> Told {
-    for table in [&RULES_CUT[..], &RULE_COUNTS, &RULE_NUMBERS, &RULES_WHOLE] {
-        for &(hex, number, place, item) in table {
-            refused_rules(held, hex, refused(number, RULES_SIDE, place, item))?;
-        }
+    let rules = [&RULES_CUT[..], &RULE_COUNTS, &RULE_NUMBERS, &RULES_WHOLE].concat();
+    let bundles = [&BUNDLE_CUT[..], &FACT_NUMBERS, &FACTS_WHOLE].concat();
+    refused_files(held, &rules, &bundles)
+}
+
+/// Rule files, and bundles under R, each refused by everything that reads it.
+pub fn refused_files(held: &mut Held, rules: &[RefusedFile], bundles: &[RefusedFile]) -> Told {
+    for &(hex, number, place, item) in rules {
+        refused_rules(held, hex, refused(number, RULES_SIDE, place, item))?;
     }
-    for table in [&BUNDLE_CUT[..], &FACT_NUMBERS, &FACTS_WHOLE] {
-        for &(hex, number, place, item) in table {
-            refused_site(held, hex, &bytes(R), &bytes(hex), refused(number, BUNDLE_SIDE, place, item))?;
-        }
+    for &(hex, number, place, item) in bundles {
+        refused_site(held, hex, &bytes(R), &bytes(hex), refused(number, BUNDLE_SIDE, place, item))?;
     }
     Ok(())
 }

@@ -228,15 +228,7 @@ impl Held<'_> {
 
     /// Refusals of the rules, which come before a bad bundle's; then those of bundles.
     fn refusals(&mut self) -> Told {
-        for (hex, number, place, item) in REFUSED_RULES {
-            let due = refused_length(refused(number, RULES_SIDE, place, item));
-            self.hold(hex, self.cleaner.check_rules(&bytes(hex)), due)?;
-            self.hold(hex, self.cleaner.check_bundle(&bytes(hex), &bytes("81 20")), due)?;
-        }
-        for (hex, number, place, item) in REFUSED_BUNDLES {
-            let got = self.cleaner.check_bundle(&bytes(R), &bytes(hex));
-            self.hold(hex, got, refused_length(refused(number, BUNDLE_SIDE, place, item)))?;
-        }
+        items::refused_files(self, &REFUSED_RULES, &REFUSED_BUNDLES)?;
         self.hold("no facts", self.cleaner.check_bundle(&bytes(R), &bytes("00")), Length::default())
     }
 
