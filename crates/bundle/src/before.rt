@@ -5,7 +5,7 @@ ghost use Rattle.bundle.specs.Told.{last_of, before_first, after_fact};
 
 use site::Fact;
 
-#[derive(Drop)]
+#[derive(Clone, Copy)]
 pub struct Before {
     pub last: Fact,
     pub any: bool,

@@ -10,7 +10,7 @@ use rule::Head;
 use site::{End, Fact, read_end, read_within};
 
 // What reading a bundle finds: its head, or the refusal.
-#[derive(Drop)]
+#[derive(Clone, Copy)]
 pub enum BundleRead {
     Accepted(Facts),
     Refused(Refusal),

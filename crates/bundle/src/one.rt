@@ -8,7 +8,7 @@ use number::{Num, Refusal, read_number};
 use site::{Declared, Fact};
 
 // What reading a fact finds: the fact with the place after it, or the refusal.
-#[derive(Drop)]
+#[derive(Clone, Copy)]
 pub enum FactRead {
     Read(Fact, usize),
     Refused(Refusal),

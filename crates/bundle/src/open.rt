@@ -9,13 +9,13 @@ use rule::Head;
 use rules::{RulesRead, check_rules};
 
 // What accepted rules and an accepted bundle say of themselves.
-#[derive(Drop)]
+#[derive(Clone, Copy)]
 pub struct Inputs {
     pub head: Head,
     pub facts: Facts,
 }
 
-#[derive(Drop)]
+#[derive(Clone, Copy)]
 pub enum Opened {
     Accepted(Inputs),
     Refused(Refusal),

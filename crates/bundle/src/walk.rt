@@ -11,14 +11,14 @@ use rule::Head;
 use site::End;
 
 // Where the walk is, and the fact before, if there is any.
-#[derive(Drop)]
+#[derive(Clone, Copy)]
 pub struct Walk {
     pub at: usize,
     pub before: Before,
 }
 
 // What one step of the walk finds: the walk after the fact, or the refusal.
-#[derive(Drop)]
+#[derive(Clone, Copy)]
 pub enum Step {
     On(Walk),
     Refused(Refusal),

@@ -3,7 +3,7 @@ ghost use Rattle.std.specs.Prelude.{◌≡◌};
 ghost use Rattle.clashes.specs.Tally.{no_counts, tallied, Small, OneIf};
 
 // "Counts: of facts, and of each mark"
-#[derive(Drop)]
+#[derive(Clone, Copy)]
 pub struct Counts {
     pub facts: u32,
     pub kept: u32,
@@ -47,7 +47,7 @@ fn one_if(mark: u32, wanted: u32) -> u32
 }
 
 // "Asking about one fact number gives its mark and partner."
-#[derive(Drop)]
+#[derive(Clone, Copy)]
 pub struct Judged {
     pub mark: u32,
     pub partner: u32,

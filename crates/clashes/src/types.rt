@@ -8,7 +8,7 @@ ghost use Rattle.site.specs.Codes.{node_code};
 use site::Fact;
 
 // A node at an ordered pair; a concept's is at a thing and itself.
-#[derive(Drop)]
+#[derive(Clone, Copy)]
 pub struct Typ {
     pub node: usize,
     pub from: u32,

@@ -15,7 +15,7 @@ use tables::Table;
 use writer::{fact_size, write_fact};
 
 // How many facts are kept, and how many bytes they have.
-#[derive(Drop)]
+#[derive(Clone, Copy)]
 pub struct Measure {
     pub count: u32,
     pub size: usize,

@@ -7,7 +7,7 @@ ghost use Rattle.number.specs.Told.{told, refusal_in};
 use crate::refusal::Refusal;
 
 // What reading a number finds: the value with the place after it, or the refusal.
-#[derive(Drop)]
+#[derive(Clone, Copy)]
 pub enum Num {
     Value(u32, usize),
     Refused(Refusal),

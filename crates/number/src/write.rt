@@ -8,7 +8,7 @@ use crate::read::Num;
 use crate::refusal::Refusal;
 
 // What writing a number finds: the place after it, or the refusal.
-#[derive(Drop)]
+#[derive(Clone, Copy)]
 pub enum Wrote {
     Next(usize),
     Refused(Refusal),

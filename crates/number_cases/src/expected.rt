@@ -2,7 +2,7 @@
 ghost use Rattle.std.specs.Prelude.{◌≤◌};
 
 // What is expected of a string: a refusal's number, or 0 with the value and its size.
-#[derive(Drop)]
+#[derive(Clone, Copy)]
 pub struct Wanted {
     pub number: u32,
     pub value: u32,

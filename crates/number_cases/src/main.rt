@@ -9,7 +9,7 @@ use compare::{read, stopped, written};
 use expected::{Wanted, digit, expected};
 
 // What is tried: a case of the document, reading a string, writing its value, and writing it where there is no room.
-#[derive(Drop)]
+#[derive(Clone, Copy)]
 enum Task {
     Case,
     Read,
@@ -17,7 +17,7 @@ enum Task {
     NoRoom,
 }
 
-#[derive(Drop)]
+#[derive(Clone, Copy)]
 enum Verdict {
     PassedOver,
     Agrees,

@@ -14,14 +14,14 @@ use rule::Head;
 use tables::BLANK;
 
 // The counts, or the refusal.
-#[derive(Drop)]
+#[derive(Clone, Copy)]
 pub enum Counted {
     Counts(Counts),
     Refused(Refusal),
 }
 
 // A fact's mark and partner, or the refusal.
-#[derive(Drop)]
+#[derive(Clone, Copy)]
 pub enum Asked {
     Judged(Judged),
     Refused(Refusal),

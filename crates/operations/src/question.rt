@@ -15,7 +15,7 @@ use site::{BasicConcept, BasicRole};
 use tables::BLANK;
 
 // "yes with the lowest-numbered kept fact (..); else no", or the refusal.
-#[derive(Drop)]
+#[derive(Clone, Copy)]
 pub enum Replied {
     Yes(u32),
     No,

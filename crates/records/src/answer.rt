@@ -2,7 +2,7 @@
 
 // How many records were handed out or bytes were written, or the refusal, whose number is not 0.
 #[repr(C)]
-#[derive(Drop)]
+#[derive(Clone, Copy)]
 pub struct RowAnswer {
     pub number: u32,
     pub side: u32,

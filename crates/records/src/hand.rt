@@ -10,7 +10,7 @@ use bundle::{FactRead, Opened, any_fact_at, open_inputs};
 use number::Refusal;
 
 // What is handed out: so many facts from a place of the bundle, none where there is a refusal.
-#[derive(Drop)]
+#[derive(Clone, Copy)]
 pub struct Hand {
     pub count: usize,
     pub start: usize,
@@ -18,7 +18,7 @@ pub struct Hand {
 }
 
 // One record of the bundle, and the place after it.
-#[derive(Drop)]
+#[derive(Clone, Copy)]
 pub struct Taken {
     pub slot: Record,
     pub next: usize,

@@ -6,7 +6,7 @@ use site::Fact;
 
 // "A record has predicate, subject and object"
 #[repr(C)]
-#[derive(Drop)]
+#[derive(Clone, Copy)]
 pub struct Record {
     pub predicate: u32,
     pub subject: u32,

@@ -8,14 +8,14 @@ use number::Refusal;
 use site::Fact;
 
 // Where a reader starts: the place after the count, or the refusal.
-#[derive(Drop)]
+#[derive(Clone, Copy)]
 pub enum Started {
     At(usize),
     Refused(Refusal),
 }
 
 // What a reader yields: the fact at its next byte, or the refusal, or that it is done.
-#[derive(Drop)]
+#[derive(Clone, Copy)]
 pub enum Yield {
     Fact(Fact),
     Refused(Refusal),
@@ -23,7 +23,7 @@ pub enum Yield {
 }
 
 // One step of a reader: what it yields, and its next byte afterwards.
-#[derive(Drop)]
+#[derive(Clone, Copy)]
 pub struct Step {
     pub yields: Yield,
     pub next: usize,

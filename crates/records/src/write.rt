@@ -14,7 +14,7 @@ use rules::{RulesRead, check_rules};
 use writer::{BundleWrote, Writing, begin, push};
 
 // How a writing starts: the rules' head and the first pass, or the rules' refusal and no turns.
-#[derive(Drop)]
+#[derive(Clone, Copy)]
 pub struct Opening {
     pub accepted: bool,
     pub refusal: Refusal,

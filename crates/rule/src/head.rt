@@ -6,7 +6,7 @@ ghost use Rattle.rule.specs.Told.{head_told};
 use number::{Num, Refusal};
 use site::{Concept, Declared, Role, Rule, read_within};
 
-#[derive(Drop)]
+#[derive(Clone, Copy)]
 pub struct Head {
     pub concepts: u32,
     pub roles: u32,
@@ -37,7 +37,7 @@ impl Head {
 }
 
 // What reading a head finds.
-#[derive(Drop)]
+#[derive(Clone, Copy)]
 pub enum HeadRead {
     Read(Head),
     Refused(Refusal),

@@ -10,7 +10,7 @@ use number::{Num, Refusal, read_number};
 use site::{Rule, read_within};
 
 // What reading a rule finds: the rule with the place after it, or the refusal.
-#[derive(Drop)]
+#[derive(Clone, Copy)]
 pub enum RuleRead {
     Read(Rule, usize),
     Refused(Refusal),

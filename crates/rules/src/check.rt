@@ -15,7 +15,7 @@ const NO_ROLE: usize = Role::COUNT as usize;
 const RIGHTS: usize = NO_ROLE + 1;
 
 // What reading a rule file finds: its head, or the refusal.
-#[derive(Drop)]
+#[derive(Clone, Copy)]
 pub enum RulesRead {
     Accepted(Head),
     Refused(Refusal),

@@ -7,7 +7,7 @@ use records::Record;
 
 // A refusal's number, side, place and item; number 0: not refused.
 #[repr(C)]
-#[derive(Drop)]
+#[derive(Clone, Copy)]
 pub struct DzyRefusal {
     pub number: u32,
     pub side: u32,
@@ -16,7 +16,7 @@ pub struct DzyRefusal {
 }
 
 #[repr(C)]
-#[derive(Drop)]
+#[derive(Clone, Copy)]
 pub struct DzyCounts {
     pub refused: DzyRefusal,
     pub facts: u32,
@@ -26,7 +26,7 @@ pub struct DzyCounts {
 }
 
 #[repr(C)]
-#[derive(Drop)]
+#[derive(Clone, Copy)]
 pub struct DzyAsked {
     pub refused: DzyRefusal,
     pub mark: u32,
@@ -34,7 +34,7 @@ pub struct DzyAsked {
 }
 
 #[repr(C)]
-#[derive(Drop)]
+#[derive(Clone, Copy)]
 pub struct DzyAnswer {
     pub refused: DzyRefusal,
     pub yes: u32,
@@ -42,7 +42,7 @@ pub struct DzyAnswer {
 }
 
 #[repr(C)]
-#[derive(Drop)]
+#[derive(Clone, Copy)]
 pub struct DzyLength {
     pub refused: DzyRefusal,
     pub length: u64,
@@ -50,7 +50,7 @@ pub struct DzyLength {
 
 // Where a reader starts.
 #[repr(C)]
-#[derive(Drop)]
+#[derive(Clone, Copy)]
 pub struct DzyStart {
     pub refused: DzyRefusal,
     pub at: u64,
@@ -58,7 +58,7 @@ pub struct DzyStart {
 
 // What a reader yields; found 0: it is done.
 #[repr(C)]
-#[derive(Drop)]
+#[derive(Clone, Copy)]
 pub struct DzyYield {
     pub refused: DzyRefusal,
     pub found: u32,

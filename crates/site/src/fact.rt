@@ -4,7 +4,7 @@ ghost use Rattle.site.specs.Kinds.{below, of_concept};
 
 use crate::nodes::{Concept, Role};
 
-#[derive(Drop)]
+#[derive(Clone, Copy)]
 pub struct Fact {
     pub predicate: u32,
     pub subject: u32,

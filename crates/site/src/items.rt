@@ -26,7 +26,7 @@ pub fn read_within(s: &[u8], at: usize, limit: u32, number: u32, side: u32) -> N
 }
 
 // Where a run of items ends, or the refusal of one of them.
-#[derive(Drop)]
+#[derive(Clone, Copy)]
 pub enum End {
     At(usize),
     Refused(Refusal),

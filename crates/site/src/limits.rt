@@ -6,7 +6,7 @@ use crate::fact::Fact;
 use crate::nodes::{Concept, Role};
 use crate::rule::Rule;
 
-#[derive(Drop)]
+#[derive(Clone, Copy)]
 pub struct Limits {
     pub concepts: u32,
     pub roles: u32,

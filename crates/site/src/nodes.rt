@@ -14,7 +14,7 @@ pub fn wide(x: u32) -> usize
     x as usize
 }
 
-#[derive(Drop)]
+#[derive(Clone, Copy)]
 pub struct Concept {
     pub number: u32,
 }
@@ -37,7 +37,7 @@ impl Concept {
     }
 }
 
-#[derive(Drop)]
+#[derive(Clone, Copy)]
 pub struct Role {
     pub number: u32,
 }
@@ -95,7 +95,7 @@ impl Role {
     }
 }
 
-#[derive(Drop)]
+#[derive(Clone, Copy)]
 pub struct BasicRole {
     pub code: u32,
 }
@@ -143,7 +143,7 @@ impl BasicRole {
     }
 }
 
-#[derive(Drop)]
+#[derive(Clone, Copy)]
 pub struct BasicConcept {
     pub code: u32,
 }
@@ -167,7 +167,7 @@ impl BasicConcept {
 }
 
 // How many concepts and roles a rule file declares.
-#[derive(Drop)]
+#[derive(Clone, Copy)]
 pub struct Declared {
     pub concepts: u32,
     pub roles: u32,

@@ -5,7 +5,7 @@ ghost use Rattle.site.specs.Told.{rule_told};
 
 use crate::nodes::{BasicConcept, BasicRole};
 
-#[derive(Drop)]
+#[derive(Clone, Copy)]
 pub enum Rule {
     Included(BasicConcept, BasicConcept),
     Disjoint(BasicConcept, BasicConcept),

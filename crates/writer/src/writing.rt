@@ -11,7 +11,7 @@ use rule::Head;
 use site::{Declared, Fact};
 
 // What writing a bundle finds: its length, or the refusal.
-#[derive(Drop)]
+#[derive(Clone, Copy)]
 pub enum BundleWrote {
     Written(usize),
     Refused(Refusal),
@@ -19,7 +19,7 @@ pub enum BundleWrote {
 
 // How far the writing is: the records so far, the one before, the place of the next one's bytes, whether the room is too short,
 // the number and the place of a refusal if there is one, and whether bytes are stored.
-#[derive(Drop)]
+#[derive(Clone, Copy)]
 pub struct Writing {
     pub count: u32,
     pub before: Before,
