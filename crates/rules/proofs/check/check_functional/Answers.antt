@@ -1,0 +1,14 @@
+use Rattle.rules.proofs.Checking.{checking}
+use Rattle.rules.proofs.check.check_functional.Goals as goal
+
+pub returns-in_default : goal.returns-in_default
+returns-in_default c = search checking
+
+pub returns-then-is_broken : goal.returns-then-is_broken
+returns-then-is_broken c = search checking
+
+pub loop-left-preserved : goal.loop-left-preserved
+loop-left-preserved c = search checking
+
+pub returns : goal.returns
+returns c = search checking
