@@ -1,4 +1,6 @@
 // Reading and writing a bundle of facts.
+#![tactic(auto)]
+
 mod before;
 mod check;
 mod facts;

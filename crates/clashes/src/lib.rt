@@ -1,4 +1,6 @@
 // The types of facts, which facts are alone and which two contradict each other, by the tables; and marks, partners and counts as they are defined.
+#![tactic(auto)]
+
 mod answers;
 mod clash;
 mod types;

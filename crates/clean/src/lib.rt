@@ -1,4 +1,6 @@
 // Cleaning the facts of a bundle by tables of what follows: marks, partners, counts, one fact, support for a question, and the kept facts.
+#![tactic(auto)]
+
 mod keep;
 mod pick;
 mod row;

@@ -1,4 +1,6 @@
 // The library's face: every public operation, for C and Rust, without any demand on the caller.
+#![tactic(auto)]
+
 ghost use Rattle.dzyunagor.specs.Promises.{CheckRules, CheckBundle, Mark, Count, Ask, Has, Joins, WriteKept, Records, WriteRecords, ReaderStart, ReaderNext};
 
 use bundle::Opened;

@@ -1,4 +1,6 @@
 // Exclusions in a table: the written ones go down both sides, and what leads to an empty node is empty.
+#![tactic(auto)]
+
 mod spread;
 
 pub use spread::exclude;

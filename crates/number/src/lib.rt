@@ -1,4 +1,6 @@
 // One number of document 01: reading it at a place, writing it at a place, and the size of its form.
+#![tactic(auto)]
+
 mod read;
 mod refusal;
 mod write;

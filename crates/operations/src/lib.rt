@@ -1,4 +1,6 @@
 // The operations on rules and a bundle: marking, counting, asking, the two questions, and writing the kept facts.
+#![tactic(auto)]
+
 mod kept;
 mod mark;
 mod question;

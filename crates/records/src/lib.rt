@@ -1,4 +1,6 @@
 // Facts as records: what is handed out, what one step of a reader yields, and the parts of writing a row as a bundle.
+#![tactic(auto)]
+
 mod answer;
 mod hand;
 mod record;

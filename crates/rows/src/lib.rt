@@ -1,4 +1,6 @@
 // Rows of records and the reader: the functions over a slice of records and over a struct that holds a slice, each a walk over covered functions of records.
+#![tactic(auto)]
+
 mod handing;
 mod reader;
 mod row;

@@ -1,4 +1,6 @@
 // The head of a rule file, and one rule at a place.
+#![tactic(auto)]
+
 mod head;
 mod read;
 

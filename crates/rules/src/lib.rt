@@ -1,4 +1,6 @@
 // Reading a rule file.
+#![tactic(auto)]
+
 mod check;
 
 pub use check::{RulesRead, check_rules};

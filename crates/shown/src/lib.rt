@@ -1,4 +1,6 @@
 // Answers as C sees them: plain structs by value, and each answer turned into one.
+#![tactic(auto)]
+
 mod shapes;
 mod show;
 

@@ -1,4 +1,6 @@
 // The kinds of document 01 as types by value, with their limits, constructors and codes.
+#![tactic(auto)]
+
 mod fact;
 mod items;
 mod limits;

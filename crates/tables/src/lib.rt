@@ -1,4 +1,6 @@
 // Tables of bits over the numbers of the nodes, and their closure.
+#![tactic(auto)]
+
 mod bits;
 mod closure;
 mod listed;

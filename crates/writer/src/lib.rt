@@ -1,4 +1,6 @@
 // Writing a bundle from facts that are given one after the other: the bytes of a fact, and the two passes that judge and store.
+#![tactic(auto)]
+
 mod store;
 mod writing;
 
