@@ -1,3 +1,2 @@
 pub mod OfFace
 pub mod OfRecords
-pub mod Walks

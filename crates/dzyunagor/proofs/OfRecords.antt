@@ -43,4 +43,4 @@ reader_started rules bundle a is r e = e ∙ ap shown_start is
 pub reader_stepped : (before after : Reader) (y : Yield) → Steps before y after → (r : DzyYield) → r ≡ shown_yield (yield_told y) → ReaderNext before r after
 reader_stepped before after y s r e = record { answer = e ∙ ap shown_yield s.yields; bundle = s.bundle; next = s.next }
 
-pub ruleset reading = (reader_started, rules)
+pub ruleset reading = (reader_started, records_handed, records_written, reader_stepped, rules)
