@@ -1,10 +1,11 @@
 -- The chase: from what is told of the named things, add a child for each partner that is demanded and not blocked. It is a world of every
 -- inclusion and disjointness, and of the functional roles where a partner that is there already blocks.
-use Prim.Native.Nat.{ℕ}
+use Prim.Native.Nat.{ℕ, suc}
 use mathlib.Core.Path.{◌≡◌, refl, sym, ap, ◌∙◌, subst}
 use mathlib.Core.Bool.{Bool, true, false}
 use mathlib.Core.Logic.{◌⊎◌, inl, inr}
 use mathlib.Core.List.{Memᴰ}
+use native.Mathlib.Omega.{arith}
 use Rattle.site.specs.Kinds.{BasicRole, BasicConcept, Node, Rule, Site, turned, declared}
 use Rattle.site.specs.Kinds.BasicRole.{forward, inverse}
 use Rattle.site.specs.Kinds.BasicConcept.{named, some}
@@ -45,6 +46,14 @@ Plain (disjoint b c) = Unit {0}
 Plain (role_included p q) = Unit {0}
 Plain (role_disjoint p q) = Unit {0}
 Plain (functional q) = ⊥
+
+-- how far an element is from a named thing: no element is its own child's child
+abbrev depth : Element → ℕ
+depth (device a) = 0
+depth (child u p) = suc (depth u)
+
+device_is : {a b : ℕ} → device a ≡ device b → a ≡ b
+device_is e = cc
 
 role_is : {p q : BasicRole} → role p ≡ role q → p ≡ q
 role_is e = cc
@@ -136,16 +145,31 @@ module _ (s : Site) (Tells : Node → ℕ → ℕ → Type 0) (block : Element �
       has_apart (child u p) e h k =
           has_apart u (step_8 {q = p} OneOf.has_inverse OneOf.has (step_6 h.2 (step_5 (step_6 k.2 (step_5 e))))) h.0 h.0
 
-      pub link_apart : {p q : BasicRole} {u v : Element} → Excluded s (role p) (role q) → Link p u v → Link q u v → ⊥
-      link_apart e (told t) (told r) = harmless.apart t r e
-      link_apart e (down {q = r} {u = u} h n i) (down k m j) =
-          has_apart u (step_8 {q = r} OneOf.itself OneOf.has (step_6 i (step_5 (step_6 j (step_5 e))))) h h
-      link_apart e (up {q = r} {u = u} h n i) (up k m j) =
+      -- the ends are given apart: two links between the same two elements go the same way
+      apart_at : {p q : BasicRole} {u v u' v' : Element} → u ≡ u' → v ≡ v' → Excluded s (role p) (role q) → Link p u v → Link q u' v' → ⊥
+      apart_at {p} {q} du dv e (told {a = a} {b = b} t) (told {a = a'} {b = b'} r) =
+          harmless.apart t (subst (λ (x : ℕ). Tells (role q) a x) (sym (device_is dv)) (subst (λ (x : ℕ). Tells (role q) x b') (sym (device_is du)) r)) e
+      apart_at du dv e (told t) (down k m j) = cc
+      apart_at du dv e (told t) (up k m j) = cc
+      apart_at du dv e (down h n i) (told r) = cc
+      apart_at {p} {q} du dv e (down {q = r} {u = u} h n i) (down {q = r'} k m j) =
+          let same : r' ≡ r = cc in
+          let j' = subst (λ (x : BasicRole). Included s (role x) (role q)) same j in
+          has_apart u (step_8 {q = r} OneOf.itself OneOf.has (step_6 i (step_5 (step_6 j' (step_5 e))))) h h
+      apart_at du dv e (down {u = u} h n i) (up {u = w} k m j) = let a = ap depth du in let b = ap depth dv in omega arith
+      apart_at du dv e (up h n i) (told r) = cc
+      apart_at du dv e (up {u = u} h n i) (down {u = w} k m j) = let a = ap depth du in let b = ap depth dv in omega arith
+      apart_at {p} {q} du dv e (up {q = r} {u = u} h n i) (up {q = r'} k m j) =
+          let same : r' ≡ r = cc in
+          let j' = subst (λ (x : BasicRole). Included s (role (turned x)) (role q)) same j in
           has_apart u
           (step_8 {q = r} OneOf.has_inverse OneOf.has
-          (step_8 {q = turned r} OneOf.itself OneOf.has (step_6 i (step_5 (step_6 j (step_5 e))))))
+          (step_8 {q = turned r} OneOf.itself OneOf.has (step_6 i (step_5 (step_6 j' (step_5 e))))))
           h
           h
+
+      pub link_apart : {p q : BasicRole} {u v : Element} → Excluded s (role p) (role q) → Link p u v → Link q u v → ⊥
+      link_apart e l m = apart_at refl refl e l m
 
       module _ (blocks : Blocks) {q : BasicRole} (m : Memᴰ (functional q) s.rules) where
         alike : {p : BasicRole} → Included s (role p) (role q) → p ≡ q

@@ -49,6 +49,9 @@ module _ (s : Site) (w : World) (obeys : (r : Rule) → Memᴰ r s.rules → Obe
   pub included_holds : {x y : Node} → Included s x y → (u v : w.Thing) → At w x u v → At w y u v
   included_holds (Included.by_rule {r = included b c} m kind_0) u v h = obeys (included b c) m u h
   included_holds (Included.by_rule {r = role_included p q} m kind_2) u v h = obeys (role_included p q) m u v h
+  included_holds (Included.by_rule {r = disjoint _ _} {y = y} m says) u v h = elim says [ ]
+  included_holds (Included.by_rule {r = role_disjoint _ _} {y = y} m says) u v h = elim says [ ]
+  included_holds (Included.by_rule {r = functional _} {y = y} m says) u v h = elim says [ ]
   included_holds (step_1 e) u v h = h
   included_holds (step_2 i k) u v h = included_holds k u v (included_holds i u v h)
   included_holds (step_3 {p = p} {q = q} i) u v h = joins_turn w q u v (included_holds i v u (joins_back w p u v h))
@@ -57,6 +60,9 @@ module _ (s : Site) (w : World) (obeys : (r : Rule) → Memᴰ r s.rules → Obe
   pub excluded_never : {x y : Node} → Excluded s x y → (u v : w.Thing) → At w x u v → At w y u v → ⊥
   excluded_never (Excluded.by_rule {r = disjoint b c} m kind_1) u v h k = obeys (disjoint b c) m u h k
   excluded_never (Excluded.by_rule {r = role_disjoint p q} m kind_3) u v h k = obeys (role_disjoint p q) m u v h k
+  excluded_never (Excluded.by_rule {r = included _ _} {y = y} m says) u v h k = elim says [ ]
+  excluded_never (Excluded.by_rule {r = role_included _ _} {y = y} m says) u v h k = elim says [ ]
+  excluded_never (Excluded.by_rule {r = functional _} {y = y} m says) u v h k = elim says [ ]
   excluded_never (step_5 e) u v h k = excluded_never e u v k h
   excluded_never (step_6 i e) u v h k = excluded_never e u v (included_holds i u v h) k
   excluded_never (step_7 {p = p} {q = q} e) u v h k = excluded_never e v u (joins_back w p u v h) (joins_back w q u v k)
