@@ -8,7 +8,7 @@ use lib.ListN.{length, take}
 use lib.Dec.{ltb}
 use native.Mathlib.Omega.{arith}
 use borrow.Author.Tests.{lt-ltb, ltb-true, ltb-false}
-use Rattle.number.specs.Answer.{Read, about, over, ◌then◌}
+use Rattle.number.specs.Answer.{Read, about}
 use Rattle.number.specs.Answer.Answer.{gives}
 use Rattle.number.specs.Number.{number_at}
 use Rattle.number.proofs.Answers.{about_given, then_same}

@@ -2,7 +2,7 @@
 use Prim.Native.Nat.{ℕ}
 use mathlib.Core.Path.{◌≡◌, sym}
 use mathlib.Core.List.{List}
-use Rattle.number.specs.Answer.{Answer, Read, ◌then◌}
+use Rattle.number.specs.Answer.{Read, ◌then◌}
 use Rattle.number.specs.Answer.Answer.{gives, refuses}
 use Rattle.number.specs.declared.refusal.Refusal.{Refusal}
 use Rattle.number.proofs.Answers.{Halts, halts, never, over_refused}

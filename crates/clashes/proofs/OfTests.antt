@@ -21,7 +21,7 @@ use Rattle.steps.specs.Tables.{Follows}
 use Rattle.tables.specs.Bits.{has as has_bit, bit_of}
 use Rattle.clashes.specs.Types.{Typ as SaidTyp, types_of, itself, concept_types, role_types}
 use Rattle.clashes.specs.Marks.{same_place, functional_node, jar, split, meet, alone, contradict}
-use Rattle.clashes.specs.Coded.{code, coded_types, has_role, bits_follow, related_at, split_coded, far}
+use Rattle.clashes.specs.Coded.{coded_types, has_role, bits_follow, related_at, split_coded, far}
 use Rattle.clashes.specs.declared.types.Typ.{Typ}
 use Rattle.clashes.proofs.OfTypes.{TypeOf, meet_some}
 use Rattle.clashes.proofs.OfTypes.TypeOf.{is_a, has, had, joins, joined}

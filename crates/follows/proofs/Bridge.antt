@@ -1,6 +1,6 @@
 -- The tables of bits hold what the relations on nodes hold, by the nodes' numbers: what was added is what the rules give, and a closure of
 -- numbers is the closure of their nodes.
-use Prim.Native.Nat.{ℕ, ◌+◌, ◌<◌}
+use Prim.Native.Nat.{ℕ, ◌<◌}
 use mathlib.Core.Path.{◌≡◌, refl, sym, ap, subst, subst₂, ◌∙◌}
 use mathlib.Core.Bool.{true}
 use mathlib.Core.Logic.{◌⊎◌, inl, inr}

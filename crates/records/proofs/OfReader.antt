@@ -7,7 +7,7 @@ use lib.ListN.{length, replicate}
 use lib.Dec.{ltb}
 use native.Mathlib.Omega.{arith}
 use borrow.Author.Tests.{le-ltb, lt-ltb}
-use Rattle.number.specs.Answer.{Answer, Read, ◌then◌, no_item}
+use Rattle.number.specs.Answer.{Answer, Read, no_item}
 use Rattle.number.specs.Answer.Answer.{gives, refuses}
 use Rattle.number.specs.Number.{number_at}
 use Rattle.number.specs.declared.refusal.Refusal.{Refusal}

@@ -6,7 +6,7 @@ use mathlib.Core.List.{List, [], ◌∷◌, map}
 use lib.ListN.{length, length-map, take, drop, get_or}
 use native.Mathlib.Omega.{arith}
 use borrow.Author.Rules.{rules}
-use Rattle.number.specs.Answer.{Answer, no_refusal, over}
+use Rattle.number.specs.Answer.{Answer, no_refusal}
 use Rattle.number.specs.Answer.Answer.{gives, refuses}
 use Rattle.number.specs.declared.refusal.Refusal.{Refusal}
 use Rattle.site.specs.declared.fact.Fact.{Fact}

@@ -8,7 +8,7 @@ use lib.ListN.{length, take}
 use lib.Dec.{ltb, leb, eqb}
 use native.Mathlib.Omega.{arith}
 use borrow.Author.Tests.{lt-ltb, ltb-true}
-use Rattle.number.specs.Answer.{Read, over, about}
+use Rattle.number.specs.Answer.{Read, about}
 use Rattle.number.specs.Answer.Answer.{gives}
 use Rattle.number.proofs.Answers.{about_given, over_given, Given, given_gives, given_test, given_then, then_same}
 use Rattle.number.proofs.Laws.{Bytes, two_bytes, one_form, one_byte}

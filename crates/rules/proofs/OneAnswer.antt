@@ -1,6 +1,6 @@
 -- Each answer of the code says one thing only: what an answer is told to be determines it, so that every contract leaves one answer.
 -- A rule is told with its codes as basic concepts and basic roles; these have one code each.
-use Prim.Native.Nat.{ℕ, ◌-◌}
+use Prim.Native.Nat.{ℕ}
 use mathlib.Core.Path.{◌≡◌, refl, ap, ap₂}
 use mathlib.Core.List.{List}
 use Rattle.number.specs.Answer.{Answer, Read}

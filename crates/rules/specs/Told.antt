@@ -1,6 +1,6 @@
 -- What each case of the code's answers says.
 use Rattle.std.specs.Prelude.{ℕ, ◌+◌, ◌<◌, min, ◌≡◌, Bool, false, ◌&&◌, List, get_or, length, ltb}
-use Rattle.number.specs.Answer.{Answer, Read}
+use Rattle.number.specs.Answer.{Answer}
 use Rattle.number.specs.Answer.Answer.{gives, refuses}
 use Rattle.site.specs.Kinds.{Rule, role_in}
 use Rattle.site.specs.Kinds.Rule.{included, disjoint, role_included, role_disjoint, functional}
@@ -8,8 +8,6 @@ use Rattle.site.specs.Lists.{any}
 use Rattle.site.specs.Limits.{most_roles}
 use Rattle.rules.specs.RuleFile.{on_right}
 use Rattle.rule.specs.declared.head.Head.{Head}
-use Rattle.rule.specs.declared.head.HeadRead.{HeadRead}
-use Rattle.rule.specs.declared.read.RuleRead.{RuleRead}
 use Rattle.rules.specs.declared.check.RulesRead.{RulesRead}
 use Rattle.rules.specs.declared.check.RulesRead.TheVariants.{Accepted, Refused}
 

@@ -8,7 +8,7 @@ use lib.ListN.{length, drop_of_length-le}
 use lib.Dec.{ltb}
 use native.Mathlib.Omega.{arith}
 use borrow.Author.Tests.{ltb-true, ltb-false}
-use Rattle.number.specs.Answer.{Answer, Read, refusal, no_item, of_item, about}
+use Rattle.number.specs.Answer.{Answer, Read, refusal, no_item, of_item}
 use Rattle.number.specs.Answer.Answer.{gives, refuses}
 use Rattle.number.specs.Number.{form_of, number_at}
 use Rattle.number.specs.declared.refusal.Refusal.{Refusal}

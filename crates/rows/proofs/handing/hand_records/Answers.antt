@@ -1,5 +1,5 @@
 -- What is handed out fits the row, so each slot is within it; a row filled to the end is what was promised.
-use Rattle.std.proofs.Common.{◌≡◌, ◌-◌, ◌+◌, ◌<◌, ◌≤◌, suc, length, arith, rules}
+use Rattle.std.proofs.Common.{◌≡◌, ◌-◌, ◌+◌, ◌<◌, suc, length, arith, rules}
 use Rattle.records.proofs.Filling.{hand_fits, hands, one_slot, no_slot}
 use Rattle.rows.proofs.handing.hand_records.Goals as goal
 

@@ -6,7 +6,7 @@ use Rattle.rows.proofs.row.push_row.Given as goal
 abbrev pub invariant-loop-i : goal.invariant-loop-i
 invariant-loop-i l = record {
   within : l.i ≤ l.turns;
-  left : Passing l.head l.row l.turns l.initial.out l.initial.writing (l.turns - l.i) l.i l.out l.writing
+  left : Passing l.head l.row l.turns l.initial.out l.initial.writing (l.turns - l.i) l.i l.out l.writing;
 }
 
 abbrev pub decreases-loop-i : goal.decreases-loop-i
