@@ -2,7 +2,6 @@
 use Prim.Native.Nat.{ℕ}
 use mathlib.Core.Path.{◌≡◌, ap, ◌∙◌}
 use mathlib.Core.List.{List}
-use lib.ListN.{length}
 use borrow.Author.Rules.{rules}
 use Rattle.number.specs.declared.refusal.Refusal.{Refusal}
 use Rattle.rules.specs.RuleFile.{check_rules}

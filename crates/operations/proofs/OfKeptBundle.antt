@@ -17,7 +17,7 @@ use Rattle.number.proofs.Laws.{at_most_three}
 use Rattle.site.specs.declared.fact.Fact.{Fact}
 use Rattle.site.specs.Kinds.{Site}
 use Rattle.site.specs.Limits.{most_facts}
-use Rattle.site.specs.Lists.{count, each}
+use Rattle.site.specs.Lists.{each}
 use Rattle.site.proofs.Lists.{length_keep, count_within}
 use Rattle.rule.specs.declared.head.Head.{Head}
 use Rattle.rules.specs.RuleFile.{site_of}

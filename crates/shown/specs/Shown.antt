@@ -1,5 +1,5 @@
 -- How C sees an answer: the refusal's number, side, place and item (number 0: not refused), and zeros in the fields that do not apply.
-use Rattle.std.specs.Prelude.{ℕ, length}
+use Rattle.std.specs.Prelude.{ℕ}
 use Rattle.number.specs.Answer.{Answer}
 use Rattle.number.specs.Answer.Answer.{gives, refuses}
 use Rattle.number.specs.declared.refusal.Refusal.{Refusal}
