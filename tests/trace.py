@@ -34,6 +34,8 @@ ROOT = pathlib.Path(__file__).resolve().parent.parent
 DOCUMENTS = pathlib.Path(os.environ.get("DOCUMENTS", ROOT.parent / "shared"))
 KINDS = ("definition", "theorem", "code", "wrong version", "test", "document")
 PART = re.compile(r"`([^`]+)`|\(([^)\s]+)\)")
+# what C calls
+FACE = "crates/dzyunagor_c/src/lib.rt"
 bad = []
 
 
@@ -115,9 +117,9 @@ def asking():
     """The public functions with a `requires`, by crate."""
     found = set()
     for path in sorted((ROOT / "crates").glob("*/src/**/*.rt")):
-        for head in re.findall(r"(?ms)^ *pub (?:extern \"C\" )?fn \w+.*?\{$", path.read_text(encoding="utf-8")):
-            if "requires" in head:
-                found.add((path.relative_to(ROOT / "crates").parts[0], re.search(r"fn (\w+)", head).group(1)))
+        for marks, name, head in sources.functions(path.read_text(encoding="utf-8")):
+            if "pub " in marks and re.search(r"\brequires\b", head):
+                found.add((path.relative_to(ROOT / "crates").parts[0], name))
     return found
 
 
@@ -156,14 +158,14 @@ def main():
             operations[head[4:].strip("` ")] = kinds
             if not {"definition", "theorem", "wrong version"} <= set(kinds):
                 fault(number, f"{head[4:]} has no promise, theorem or wrong version")
-            if sum(len(re.findall(r"`\w[\w-]*-not-|`\w+/", item)) for _, item in items) < 3:
+            if sum(len(re.findall(r"`\w+_not_|`\w+/", item)) for _, item in items) < 3:
                 fault(number, f"{head[4:]} has less than three wrong versions and wrong answers")
         elif head:
             sentences += 1
             if not kinds:
                 fault(number, f"nothing holds: {head[2:60]}")
-    face = (ROOT / "crates/dzyunagor/src/lib.rt").read_text(encoding="utf-8")
-    public = set(re.findall(r'extern "C" fn (\w+)', face))
+    face = text_of(ROOT / FACE) or ""
+    public = {name for marks, name, _ in sources.functions(face) if 'pub extern "C"' in marks}
     if public != set(operations):
         bad.append(f"docs/TRACE.md: operations that differ from the face: {sorted(public ^ set(operations))}")
     tied = set(re.findall(r"Keeps (dzy_\w+)\.ended", (ROOT / "crates/face/specs/Face.antt").read_text(encoding="utf-8")))
