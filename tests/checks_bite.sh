@@ -123,8 +123,8 @@ plain passes A.antt '-- is it there? by lem\na = b -- or here?\nlemma = places\n
 plain passes A.antt '{- is it there?\n  axiom f : A -}\na = b\n'
 plain passes a.rt '// extern "C" { or ?\n#[unsafe(no_mangle)]\npub extern "C" fn f()\n    ensures { x ≡ y }\n{\n    g(b"what? // no")?;\n}\n'
 mkdir -p "$work/crate/tests"
-for shortcut in '--allow''-holes' '--allow''-axioms' '--allow''-empty' 'RT_ALLOW''_C=1 rt check'; do
-  echo "rt check $shortcut" >"$work/crate/tests/quick.sh"
+for shortcut in '--allow''-holes' '--allow''-axioms' '--allow''-empty' 'RT_AL''LOW_C=1'; do
+  echo "$shortcut rt check" >"$work/crate/tests/quick.sh"
   tests/plain.sh "$work/crate" >/dev/null && failed "plain.sh passes a script with $shortcut"
 done
 
