@@ -75,7 +75,8 @@ told uncalled.py crates/site/src/nodes.rt '\nimpl Declared {\n    pub fn new(rol
 told uncalled.py crates/site/src/nodes.rt '\nimpl Concept {\n    pub fn halve(x: u32) -> u32 {\n        if x < 2 {\n            return x;\n        }\n        Concept::halve(x / 2)\n    }\n}\n' ': nothing calls Concept::halve'
 told uncalled.py crates/rule/src/read.rt '\nfn push(x: u32) -> u32 {\n    x\n}\n' ': nothing calls push'
 told uncalled.py crates/rule/src/read.rt '\nconst ROOM: u32 = 1;\n' ': nothing uses ROOM'
-# a clause, a tactic and a string call nothing
+told uncalled.py crates/rule/src/read.rt '\nstruct Aside<F> {\n    f: F,\n}\n\nimpl<F: Fn(u32) -> u32> Aside<F> {\n    pub const fn aside(self) -> u32 {\n        self.aside_too()\n    }\n}\n' ': nothing calls Aside::aside'
+# a clause and a tactic call nothing
 told uncalled.py crates/rule/src/read.rt '\nfn aside(x: u32) -> u32 {\n    x\n}\n\n#[tactic(auto, using(crate::proofs::Aside::aside))]\nfn beside(x: u32) -> u32\n    ensures same { result ≡ aside (x) }\n{\n    x\n}\n' ': nothing calls aside'
 
 # what is cited for a proof by an attribute is used, and only what it names

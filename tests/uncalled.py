@@ -18,13 +18,14 @@ sys.dont_write_bytecode = True
 import sources  # noqa: E402
 
 ROOT = pathlib.Path(sys.argv[1] if len(sys.argv) > 1 else pathlib.Path(__file__).parent.parent).resolve()
-# called by nothing, with the reason; what they use is not used by that
 # the traits of the repository's own: what an `impl` gives one of these is called where its name is
-TRAITS = frozenset(re.findall(r"(?m)^ *(?:pub )?trait (\w+)", "\n".join(p.read_text(encoding="utf-8") for p in ROOT.glob("crates/*/src/**/*.rt"))))
+TEXTS = {path: path.read_text(encoding="utf-8") for path in sorted(ROOT.glob("crates/*/src/**/*.rt"))}
+TRAITS = {name for text in TEXTS.values() for name in re.findall(r"(?m)^ *(?:pub )?trait (\w+)", text)}
+# called by nothing, with the reason; what they use is not used by that
 ALLOWED = {"site limits_of_kinds": "it is there to be proved: the kinds' constants are the definitions' limits"}
 ITEM = re.compile(
-    r'(?P<public>extern 0 |#\[test\]\s*(?:#\[[^\]]*\]\s*)*)?\bfn (?P<fn>\w+)|\bconst (?P<const>\w+)'
-    r"|^ *impl(?:<[^>]*>)? (?:(?P<trait>[\w:]+)(?:<[^>]*>)? for )?(?P<impl>\w+)",
+    r'(?P<public>extern 0 |#\[test\]\s*(?:#\[[^\]]*\]\s*)*)?\bfn (?P<fn>\w+)|\bconst (?!fn\b)(?P<const>\w+)'
+    r"|^ *(?:pub )?(?P<owner>impl|trait)\b(?P<head>[^{;]*)",
     re.M,
 )
 NAME = re.compile(r"((?<!\.)\.)?\b((?:\w+::)*)(\w+)\b(\s*\()?")
@@ -45,6 +46,17 @@ def end_of(code, start):
     return len(code)
 
 
+def owner_of(head):
+    """The trait that an `impl` gives, if it does, and the type it is of, by what stands before its block; or a trait's name."""
+    head = head.replace("->", " ")
+    while "<" in head:
+        head, before = re.sub(r"<[^<>]*>", "", head), head
+        if head == before:
+            break
+    made = re.match(r"\s*(?:(?:\w+::)*(\w+)\s+for\s+)?&?(?:mut )?(?:\w+::)*(\w*)", head)
+    return made[1], made[2]
+
+
 class Item(NamedTuple):
     crate: str
     file: pathlib.Path
@@ -60,13 +72,13 @@ class Item(NamedTuple):
 
 def items_of(path):
     """The functions and constants of a file, and what stands outside of both."""
-    code = sources.code_of(path.read_text(encoding="utf-8"))
+    code = sources.code_of(TEXTS[path])
     crate = path.relative_to(ROOT / "crates").parts[0]
     found, rest, owner, owner_end, is_given, at = [], code, "", 0, False, 0
     for made in ITEM.finditer(code):
-        if made["impl"]:
-            owner, owner_end = made["impl"], end_of(code, made.end())
-            is_given = made["trait"] is not None and made["trait"] not in TRAITS
+        if made["owner"]:
+            trait, owner = owner_of(made["head"])
+            owner_end, is_given = end_of(code, made.end()), trait and trait not in TRAITS
             continue
         if made.start() < at or made["const"] == "_":
             continue
@@ -77,7 +89,7 @@ def items_of(path):
         line = code.count("\n", 0, made.start()) + 1
         found.append(Item(crate, path, of, made["fn"] or made["const"], line, kind, code[made.end():at]))
         rest = rest[:made.start()] + re.sub(r"[^\n]", " ", code[made.start():at]) + rest[at:]
-    return found, re.sub(r"(?m)^ *(?:pub )?(?:use [^;]*;|mod .*)|^ *impl .*", "", rest), dict(brought(code))
+    return found, re.sub(r"(?m)^ *(?:pub )?(?:use [^;]*;|mod .*)|^ *impl\b.*", "", rest), dict(brought(code))
 
 
 def brought(code):
@@ -128,7 +140,7 @@ def meant(item, mark, path, name, called, uses):
 
 def main():
     items, texts, known = [], [], {}
-    for path in sorted(ROOT.glob("crates/*/src/**/*.rt")):
+    for path in TEXTS:
         found, rest, known[path] = items_of(path)
         items += found
         texts.append((rest, path.relative_to(ROOT / "crates").parts[0], path, ""))
