@@ -49,9 +49,22 @@ fi
 DOCUMENTS=$work/none tests/trace.py | grep '^the sentences were not held to the documents' >/dev/null || failed "a clone that stands alone is not told of"
 tests/trace.py >/dev/null || failed "the trace refuses the page itself"
 
-# ---- the sources: a copy of them, a file of the copy and what is added at its end, then what the check must tell
+# ---- what C calls, in a copy of the repository: what is changed, the words of sed that change it, then what the check must tell
 mkdir "$work/copy"
-cp -r crates docs "$work/copy"
+tar -c --exclude=./.git --exclude=./target --exclude='./crates/*/out' . | tar -x -C "$work/copy"
+to_c=crates/dzyunagor_c/src/lib.rt
+changed() {
+  cp "$to_c" "$work/copy/$to_c"
+  sed -E -i "$2" "$work/copy/$to_c"
+  tests/trace.py docs/TRACE.md "$work/copy" | grep -F -e "$3" >/dev/null || failed "the trace does not tell of $1: $3"
+  cp "$to_c" "$work/copy/$to_c"
+}
+tests/trace.py docs/TRACE.md "$work/copy" >/dev/null || failed "the trace refuses a copy"
+changed "a weaker contract for C" '0,/ensures \{/s//ensures { true \&\&/' 'has not the contract of the library'
+changed "a contract for C that is gone" '0,/ensures \{.*\}/s///' 'has not the contract of the library'
+changed "a function that C cannot call" '0,/pub extern "C" fn dzy_ask/s//pub fn dzy_ask/' "differ from the face: ['dzy_ask']"
+
+# ---- the sources: a file of the copy and what is added at its end, then what the check must tell
 # a function's answers
 answers=crates/rules/proofs/check/rules_end/Answers.antt
 told() {

@@ -160,9 +160,8 @@ def named():
 
 
 def main():
-    paths = [p for p in sorted(ROOT.glob("crates/*/*/**/*")) if p.suffix in (".rt", ".antt")]
-    paths = [p for p in paths if p.relative_to(ROOT / "crates").parts[1] in ("src", "specs", "proofs")]
-    files = {path: File(path) for path in paths}
+    paths = sorted(path for part in ("src", "specs", "proofs") for path in ROOT.glob(f"crates/*/{part}/**/*"))
+    files = {path: File(path) for path in paths if path.suffix in (".rt", ".antt")}
     found = uses(files)
     told = set(named())
     alive, fresh = set(), set(found.get(OUTSIDE, ()))

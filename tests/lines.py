@@ -4,6 +4,7 @@
 WHAT is antt, definitions and proofs; contracts, what the clauses of Rattle say; or code, the rest of Rattle's text, without
 what its strings hold.
 """
+import os
 import pathlib
 import sys
 
@@ -20,8 +21,9 @@ READ = {
 def main():
     ending, read = READ[sys.argv[1]]
     root = pathlib.Path(sys.argv[2] if len(sys.argv) > 2 else pathlib.Path(__file__).parent.parent)
-    for path in sorted(root.glob(f"crates/**/*{ending}")):
-        if "out" not in path.relative_to(root).parts:
+    for folder, folders, names in os.walk(root / "crates"):
+        folders[:] = sorted(name for name in folders if name != "out")
+        for path in sorted(pathlib.Path(folder, name) for name in names if name.endswith(ending)):
             for number, line in enumerate(read(path.read_text(encoding="utf-8")), 1):
                 if line.strip():
                     print(f"{path.relative_to(root)}:{number}: {line}")
