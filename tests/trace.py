@@ -18,9 +18,10 @@ The names before a path in brackets are declared there (definition, theorem, cod
 (test, document: a path under the root). A wrong version is CRATE/EDIT of crates/CRATE/must-fail/EDIT.edit.
 A line `<!-- .. -->` is not read.
 Every public operation has a heading `### dzy_..` with its promise, the theorem that it leaves one answer, and three
-wrong versions or answers at least, and is tied to its promise in crates/face/specs/Face.antt; what crates/dzyunagor_c gives
-to C is just these operations, each with the contract, word for word, that the library's function of that name has. Every
-wrong version of the repository stands somewhere. docs/EXCEPTIONS.md lists every public function with a `requires`.
+wrong versions or answers at least, and is tied to its promise in crates/face/specs/Face.antt, and under its C name in
+crates/dzyunagor_c/proofs/Exported.antt; what that crate gives to C is just these operations, each with the contract, word
+for word, that the library's function of that name has. Every wrong version of the repository stands somewhere.
+docs/EXCEPTIONS.md lists every public function with a `requires`.
 """
 import os
 import pathlib
@@ -37,7 +38,7 @@ DOCUMENTS = pathlib.Path(os.environ.get("DOCUMENTS", HERE.parent / "shared"))
 KINDS = ("definition", "theorem", "code", "wrong version", "test", "document")
 PART = re.compile(r"`([^`]+)`|\(([^)\s]+)\)")
 LIBRARY, TO_C = "crates/dzyunagor/src/lib.rt", "crates/dzyunagor_c/src/lib.rt"
-TIED = "crates/face/specs/Face.antt"
+TIED = ("crates/face/specs/Face.antt", "crates/dzyunagor_c/proofs/Exported.antt")
 bad = []
 
 
@@ -160,9 +161,10 @@ def check_face(operations):
     library, to_c = dict(contracts(LIBRARY, "pub ")), dict(contracts(TO_C, 'pub extern "C" '))
     if set(to_c) != operations:
         bad.append(f"docs/TRACE.md: operations that differ from the face: {sorted(set(to_c) ^ operations)}")
-    tied = set(re.findall(r"Keeps (dzy_\w+)\.ended", text_of(ROOT / TIED) or ""))
-    if set(to_c) != tied:
-        bad.append(f"{TIED}: operations that differ from the face: {sorted(set(to_c) ^ tied)}")
+    for page in TIED:
+        tied = set(re.findall(r"Keeps (dzy_\w+)\.ended", text_of(ROOT / page) or ""))
+        if set(to_c) != tied:
+            bad.append(f"{page}: operations that differ from the face: {sorted(set(to_c) ^ tied)}")
     for name, contract in sorted(to_c.items()):
         if not contract or library.get(name) != contract:
             bad.append(f"{TO_C}: {name} has not the contract of the library's {name}")
