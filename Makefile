@@ -1,7 +1,7 @@
 # `make` runs the main job on the worked site; `make help` lists the rest.
 PREFIX ?= /usr/local
 N ?= 1000000
-# the toolchain's command; RT=: installs what is built already
+# RT=: installs what is built already
 RT ?= rt
 KEEP ?=
 
@@ -22,7 +22,7 @@ bench:
 	@KEEP=$(KEEP) bench/run.sh
 
 help:
-	@echo "make run                  the worked site, cleaned: about 5 minutes the first time, then at once"
+	@echo "make run                  the worked site, cleaned: some minutes the first time, then at once"
 	@echo "make test                 the whole gate: every proof, every wrong version, every test"
 	@echo "make fuzz N=1000000       so many more damaged inputs, and a tenth as many random sites"
 	@echo "make bench                ratios beside plain Rust and SQL, printed; KEEP=1 writes bench/RESULTS.md"
@@ -31,8 +31,7 @@ help:
 
 # the program, the archive, the header, pkg-config's file, the authors' tool, man pages and documents
 install:
-	$(RT) check cleaner
-	$(RT) staticlib dzyunagor
+	@[ '$(RT)' = : ] || { tools/program.sh && tools/archive.sh; }
 	@DESTDIR='$(DESTDIR)' tools/install.sh install '$(PREFIX)'
 
 uninstall:

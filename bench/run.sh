@@ -40,7 +40,7 @@ tell_cases() {
 set -o pipefail
 {
   cat bench/HEAD.md
-  echo "Measured on $(uname -m) by $(rustc --version | cut -d' ' -f1,2)$(command -v sqlite3 >/dev/null && echo ", SQLite $(sqlite3 --version | cut -d' ' -f1)")."
+  echo "Measured on $(uname -m) by $(rustc --version | cut -d' ' -f1,2)$(command -v sqlite3 >/dev/null && echo ", SQLite $(sqlite3 --version | cut -d' ' -f1)"), with the toolchain $(rt version)."
   echo
   "$built/bench" | tell_cases
   echo

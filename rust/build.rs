@@ -1,4 +1,4 @@
-//! Tells the linker where the library's archive is: in the folder DZYUNAGOR_LIB, else where `rt staticlib dzyunagor` writes it.
+//! Tells the linker where the library's archive is: in the folder DZYUNAGOR_LIB, else where `tools/archive.sh` puts it.
 //! Without it, or for a processor that it is not for, the package can be checked (`cargo check`) and not linked.
 
 use std::env::var;
@@ -19,7 +19,7 @@ fn main() {
     }
     if !folder.join(ARCHIVE).is_file() {
         let folder = folder.display();
-        println!("cargo:warning={ARCHIVE} is not in {folder}: `rt staticlib dzyunagor` makes it, or set DZYUNAGOR_LIB to the folder that it is in");
+        println!("cargo:warning={ARCHIVE} is not in {folder}: `tools/archive.sh` makes it, or set DZYUNAGOR_LIB to the folder that it is in");
     }
     println!("cargo:rustc-link-search=native={}", folder.display());
     println!("cargo:rustc-link-lib=static=dzyunagor");

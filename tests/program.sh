@@ -3,7 +3,7 @@
 # long, and compares what it prints to the byte. It is built first if the sources have changed.
 set -u
 cd "$(dirname "$0")/.." || exit 2
-tools/prove.sh check cleaner "Proving and building the program: about 5 minutes on two cores the first time." || exit 1
+tools/program.sh || exit 1
 program=$PWD/target/bin/cleaner
 x86=$PWD/tools/x86.sh
 work=$(mktemp -d)

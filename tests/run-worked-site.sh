@@ -4,7 +4,7 @@
 set -u
 cd "$(dirname "$0")/.." || exit 2
 
-# the listing by the program as it stands, nothing proved: `rt try` holds what it writes to its file stdout
+# the listing by the program as it stands, nothing proved: what it writes is held to its file stdout
 before_the_proof() {
   local said
   if said=$(tools/try.sh cleaner 2>&1); then
@@ -23,8 +23,6 @@ if [ "${1:-}" = before ]; then
 fi
 tools/need.sh rt || exit 2
 tools/toolchain.sh >&2
-tools/prove.sh check cleaner \
-  "Cleans the worked site, by a program that is first proved and built: about 5 minutes on two cores, the first time." \
-  tests/run-worked-site.sh before || exit 1
+tools/program.sh tests/run-worked-site.sh before || exit 1
 root=$PWD
 cd crates/cleaner/data && "$root/tools/x86.sh" run "$root/target/bin/cleaner"

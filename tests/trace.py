@@ -2,7 +2,7 @@
 """Holds docs/TRACE.md to the repository and to the customer's documents; fails at a name that no longer exists, at a sentence
 that nothing holds, and at one that is quoted wrongly or left out.
 
-    tests/trace.py [PAGE]     another page than docs/TRACE.md
+    tests/trace.py [PAGE [ROOT]]     another page than docs/TRACE.md, another copy of the repository
 
 The documents lie in ../shared beside the project, or in the folder that DOCUMENTS names (`quotes.py` says how the page is held
 to them). Where there is no such folder, as beside a clone that stands alone, the page is held to the repository only.
@@ -18,8 +18,10 @@ The names before a path in brackets are declared there (definition, theorem, cod
 (test, document: a path under the root). A wrong version is CRATE/EDIT of crates/CRATE/must-fail/EDIT.edit.
 A line `<!-- .. -->` is not read.
 Every public operation has a heading `### dzy_..` with its promise, the theorem that it leaves one answer, and three
-wrong versions or answers at least, and is tied to its promise in crates/face/specs/Face.antt; every wrong version of the repository stands somewhere. docs/EXCEPTIONS.md lists every
-public function with a `requires`.
+wrong versions or answers at least, and is tied to its promise in crates/face/specs/Face.antt, and under its C name in
+crates/dzyunagor_c/proofs/Exported.antt; what that crate gives to C is just these operations, each with the contract, word
+for word, that the library's function of that name has. Every wrong version of the repository stands somewhere.
+docs/EXCEPTIONS.md lists every public function with a `requires`.
 """
 import os
 import pathlib
@@ -30,10 +32,13 @@ sys.dont_write_bytecode = True
 import quotes  # noqa: E402
 import sources  # noqa: E402
 
-ROOT = pathlib.Path(__file__).resolve().parent.parent
-DOCUMENTS = pathlib.Path(os.environ.get("DOCUMENTS", ROOT.parent / "shared"))
+HERE = pathlib.Path(__file__).resolve().parent.parent
+ROOT = pathlib.Path(sys.argv[2]).resolve() if len(sys.argv) > 2 else HERE
+DOCUMENTS = pathlib.Path(os.environ.get("DOCUMENTS", HERE.parent / "shared"))
 KINDS = ("definition", "theorem", "code", "wrong version", "test", "document")
 PART = re.compile(r"`([^`]+)`|\(([^)\s]+)\)")
+LIBRARY, TO_C = "crates/dzyunagor/src/lib.rt", "crates/dzyunagor_c/src/lib.rt"
+TIED = ("crates/face/specs/Face.antt", "crates/dzyunagor_c/proofs/Exported.antt")
 bad = []
 
 
@@ -115,9 +120,9 @@ def asking():
     """The public functions with a `requires`, by crate."""
     found = set()
     for path in sorted((ROOT / "crates").glob("*/src/**/*.rt")):
-        for head in re.findall(r"(?ms)^ *pub (?:extern \"C\" )?fn \w+.*?\{$", path.read_text(encoding="utf-8")):
-            if "requires" in head:
-                found.add((path.relative_to(ROOT / "crates").parts[0], re.search(r"fn (\w+)", head).group(1)))
+        for marks, name, head in sources.functions(path.read_text(encoding="utf-8")):
+            if "pub " in marks and re.search(r"\brequires\b", head):
+                found.add((path.relative_to(ROOT / "crates").parts[0], name))
     return found
 
 
@@ -144,6 +149,27 @@ def check_quotes(lines):
         fault(line, what)
 
 
+def contracts(path, marks_due):
+    """The contract of each function of a file that has these marks, or nothing where it has none."""
+    for marks, name, head in sources.functions(text_of(ROOT / path) or ""):
+        if marks_due in marks:
+            yield name, " ".join(head[next(sources.clauses(head), (len(head),))[0]:].split())
+
+
+def check_face(operations):
+    """What C calls are the operations, tied to their promises, with the library's own contracts."""
+    library, to_c = dict(contracts(LIBRARY, "pub ")), dict(contracts(TO_C, 'pub extern "C" '))
+    if set(to_c) != operations:
+        bad.append(f"docs/TRACE.md: operations that differ from the face: {sorted(set(to_c) ^ operations)}")
+    for page in TIED:
+        tied = set(re.findall(r"Keeps (dzy_\w+)\.ended", text_of(ROOT / page) or ""))
+        if set(to_c) != tied:
+            bad.append(f"{page}: operations that differ from the face: {sorted(set(to_c) ^ tied)}")
+    for name, contract in sorted(to_c.items()):
+        if not contract or library.get(name) != contract:
+            bad.append(f"{TO_C}: {name} has not the contract of the library's {name}")
+
+
 def main():
     check_exceptions()
     edits, operations, sentences = set(), {}, 0
@@ -156,19 +182,13 @@ def main():
             operations[head[4:].strip("` ")] = kinds
             if not {"definition", "theorem", "wrong version"} <= set(kinds):
                 fault(number, f"{head[4:]} has no promise, theorem or wrong version")
-            if sum(len(re.findall(r"`\w[\w-]*-not-|`\w+/", item)) for _, item in items) < 3:
+            if sum(len(re.findall(r"`\w+_not_|`\w+/", item)) for _, item in items) < 3:
                 fault(number, f"{head[4:]} has less than three wrong versions and wrong answers")
         elif head:
             sentences += 1
             if not kinds:
                 fault(number, f"nothing holds: {head[2:60]}")
-    face = (ROOT / "crates/dzyunagor/src/lib.rt").read_text(encoding="utf-8")
-    public = set(re.findall(r'extern "C" fn (\w+)', face))
-    if public != set(operations):
-        bad.append(f"docs/TRACE.md: operations that differ from the face: {sorted(public ^ set(operations))}")
-    tied = set(re.findall(r"Keeps (dzy_\w+)\.ended", (ROOT / "crates/face/specs/Face.antt").read_text(encoding="utf-8")))
-    if public != tied:
-        bad.append(f"crates/face/specs/Face.antt: operations that differ from the face: {sorted(public ^ tied)}")
+    check_face(set(operations))
     all_edits = {f"{p.parent.parent.name}/{p.stem}" for p in ROOT.glob("crates/*/must-fail/*.edit")}
     bad.extend(f"docs/TRACE.md: wrong version {name} holds no sentence" for name in sorted(all_edits - edits))
     print("\n".join(bad + [f"{sentences} sentences, {len(operations)} operations, {len(edits)} wrong versions, {len(bad)} faults"]))

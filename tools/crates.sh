@@ -1,12 +1,13 @@
 #!/usr/bin/env bash
 # Prints the crates of this repository that a crate stands on, and the crate itself, one to a line, in the order of crates.txt.
 #   tools/crates.sh NAME
+# The name is the first word of a line of crates.txt; what else stands before the colon says what kind of crate it is.
 set -u
 cd "$(dirname "$0")/.." || exit 2
 awk -v name="${1:?which crate}" '
   { sub(/#.*/, "") }
   !/:/ { next }
-  { split($0, side, ":"); gsub(/[ \t]/, "", side[1]); order[++count] = side[1]; under[side[1]] = side[2] }
+  { split($0, side, ":"); split(side[1], words, " "); order[++count] = words[1]; under[words[1]] = side[2] }
   function take(one, words, n, i) {
     if (one in taken || !(one in under)) return
     taken[one] = 1

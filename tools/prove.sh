@@ -1,7 +1,7 @@
 #!/usr/bin/env bash
-# Runs rt on a crate and what it stands on, and says on standard error how far it is. What rt prints goes to target/NAME.log, and its end is
-# shown if rt fails. If all is done within two seconds, as where nothing has changed, it says nothing.
-#   tools/prove.sh check|staticlib NAME TEXT [COMMAND..]
+# Runs rt in a crate's folder, and says on standard error how far it is with the crate and what it stands on. What rt prints goes to
+# target/NAME.log, and its end is shown if rt fails. If all is done within two seconds, as where nothing has changed, it says nothing.
+#   tools/prove.sh check|lib|run NAME TEXT [COMMAND..]
 # TEXT is the first line, what is done and how long it takes; COMMAND is run after it, while rt works.
 set -u
 cd "$(dirname "$0")/.." || exit 2
@@ -11,36 +11,37 @@ tools/need.sh rt || exit 2
 crates=$(tools/crates.sh "$name") || exit 2
 count=$(wc -l <<<"$crates")
 mkdir -p target
-log=target/$name.log
+log=$PWD/target/$name.log
 shown=0
 long=no
 
 # rt has a group of its own, so that it ends with all that it started if this script is stopped
 set -m
-rt "$verb" "$name" </dev/null >"$log" 2>&1 &
+(cd "crates/$name" && exec rt "$verb") </dev/null >"$log" 2>&1 &
 rt=$!
 set +m
 trap 'kill -- -"$rt" 2>/dev/null' EXIT
 trap 'exit 130' INT TERM HUP
 
-# the crates that are proved so far, each with how it was: seconds, or unchanged
-proved() {
-  sed -n 's/^rt: \([a-z0-9_]*\) proved (\(.*\)).*/\1 \2/p' "$log"
-}
+# the crates that rt has come to so far, and those that it is done with; one that has not changed is in neither
+begun() { sed -n 's/^rt: chose --jobs [0-9]* for \([a-z0-9_]*\)$/\1/p' "$log"; }
+proved() { sed -n 's/^crate \([a-z0-9_]*\): modules .*/\1/p' "$log"; }
+
+# a crate's place among all
+place() { grep -nxF -e "$1" <<<"$crates" | cut -d: -f1; }
 
 # on a terminal one line, of the crate that is worked at; else a line for each crate that has been proved since the last time
 show() {
-  local so_far one how
-  so_far=$(proved)
+  local one
   if [ -t 2 ]; then
-    one=$(grep -vxF -e "$(cut -d' ' -f1 <<<"$so_far")" <<<"$crates" | head -n 1)
-    [ -n "$one" ] && printf '\r\033[Kcrate %d of %d: %s, %d s so far' "$(($(grep -c . <<<"$so_far") + 1))" "$count" "$one" "$SECONDS" >&2
+    one=$(begun | tail -n 1)
+    [ -n "$one" ] && printf '\r\033[Kcrate %d of %d: %s, %d s so far' "$(place "$one")" "$count" "$one" "$SECONDS" >&2
     return
   fi
-  while read -r one how; do
+  while read -r one; do
     shown=$((shown + 1))
-    [[ $how == unchanged* ]] || echo "crate $shown of $count: $one proved, $SECONDS s so far" >&2
-  done < <(tail -n "+$((shown + 1))" <<<"$so_far" | grep .)
+    echo "crate $(place "$one") of $count: $one proved, $SECONDS s so far" >&2
+  done < <(proved | tail -n "+$((shown + 1))")
 }
 
 # waits till rt has ended, or for so many tenths of a second
@@ -56,7 +57,7 @@ ended() {
 if ! ended 20; then
   long=yes
   echo "$text" >&2
-  echo "What the prover says is in $log." >&2
+  echo "What the prover says is in target/$name.log." >&2
   [ $# -gt 0 ] && "$@" >&2
   until ended 5; do show; done
   show
@@ -66,7 +67,7 @@ wait "$rt"
 status=$?
 trap - EXIT
 if [ "$status" -ne 0 ]; then
-  echo "FAILED: rt $verb $name, status $status. The end of $log:" >&2
+  echo "FAILED: rt $verb in crates/$name, status $status. The end of target/$name.log:" >&2
   tail -n 20 "$log" | cut -c 1-300 >&2
 elif [ "$long" = yes ]; then
   echo "$name: $count crates proved, $SECONDS s" >&2

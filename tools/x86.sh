@@ -1,6 +1,7 @@
 #!/usr/bin/env bash
 # The one place that knows how a program for x86-64 is run, and how C programs that link the library's archive are built: as they are on
-# x86-64, and elsewhere with the Rattle toolchain's emulator, compiler and C library for x86-64. From any folder, but `build` from the root.
+# x86-64, and elsewhere with the emulator, compiler and C library for x86-64 of a Rattle toolchain that has them. From any folder, but
+# `build` from the root.
 #   tools/x86.sh run PROGRAM [WORDS]                   runs it
 #   tools/x86.sh command PROGRAM                       prints the words that run it
 #   tools/x86.sh build SANITIZED OUT SOURCE ARCHIVE    SANITIZED: yes or no
@@ -12,7 +13,11 @@ if [ "$machine" != x86_64 ]; then
     echo "x86.sh: programs for x86-64 run on $machine under the Rattle toolchain's emulator, and its command rt is not on the PATH" >&2
     exit 2
   }
-  tools=$(dirname "$(dirname "$(rt doc)")")/on/$machine/toolchain
+  tools=$(dirname "$(rt doc)")/on/$machine/toolchain
+  [ -d "$tools" ] || {
+    echo "x86.sh: this Rattle toolchain has no emulator for $machine ($tools): take an x86-64 machine" >&2
+    exit 2
+  }
   emulator=("$tools/bin/qemu-x86_64" "$tools/lib/ld-linux-x86-64.so.2" --library-path "$tools/lib")
 fi
 warn="-std=c11 -pedantic -Wall -Wextra -Werror"

@@ -21,7 +21,7 @@
 //! ```
 //!
 //! It links `libdzyunagor.a`, for x86-64: from the folder that the environment variable `DZYUNAGOR_LIB` names (an absolute path) when
-//! it is built, else from the repository's `target/staticlib`, where `rt staticlib dzyunagor` writes it. Every call fits into 24 KiB of
+//! it is built, else from the repository's `target/staticlib`, where `tools/archive.sh` puts it. Every call fits into 24 KiB of
 //! stack (measured: docs/SPEED.md).
 #![no_std]
 #![deny(missing_docs, unsafe_code)]
