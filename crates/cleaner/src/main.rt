@@ -1,9 +1,11 @@
-// The program: opens `rules.bin` and `bundle.bin` in the directory it is run in, and prints the listing of their marks. What it reads and
-// writes no proof can say; the marks and each line that it writes are proved.
+// The program: opens `rules.bin` and `bundle.bin` in the directory it is run in, and prints the listing of their marks. What a file gives and
+// what becomes of the output no proof can say; that the bytes written are the whole listing of the bytes read is proved.
 #![tactic(auto)]
 
-ghost use Rattle.std.specs.Prelude.{take};
-ghost use Rattle.std.specs.Io.KnownBytes.{Consumes};
+ghost use Rattle.std.specs.Prelude.{take, OnOk};
+ghost use Rattle.std.specs.Io.KnownBytes.{Appends, Consumes};
+ghost use Rattle.operations.specs.Promises.{counted_told};
+ghost use Rattle.listing.specs.Listing.{lines_of, line_at, lines_from, listing_of};
 ghost use Rattle.cleaner.specs.Counts.{IsPrefixLen};
 ghost use Rattle.cleaner.specs.Prints.{Prints};
 
@@ -39,6 +41,7 @@ fn read_file(rt: &impl Files, path: &str, buffer: &mut [u8; 65536]) -> usize
     }
 }
 
+// The line of this number, after what has been written.
 fn print_line<W: Write>(
     out: &mut W,
     counted: Counted,
@@ -47,12 +50,14 @@ fn print_line<W: Write>(
     number: usize,
 ) -> io::Result<()>
     requires { Prints counted marks.now partners.now number }
+    ensures { OnOk result (Appends (W.contents out.old) (W.contents out.new) (line_at (counted_told counted) marks.now partners.now number)) }
 {
     let mut line = [0u8; listing::ROOM];
     let length = listing::write_line(&mut line, counted, marks, partners, number);
     out.write_all(&line[..length])
 }
 
+// Every line, in order.
 fn print_listing<W: Write>(
     out: &mut W,
     counted: Counted,
@@ -60,6 +65,8 @@ fn print_listing<W: Write>(
     partners: &[u16],
 ) -> io::Result<()>
     requires { Prints counted marks.now partners.now 0 }
+    ensures { OnOk result (Appends (W.contents out.old) (W.contents out.new)
+        (lines_from (counted_told counted) marks.now partners.now 0 (lines_of (counted_told counted)))) }
 {
     let count = listing::count_lines(counted);
     let mut number = 0;
@@ -70,18 +77,24 @@ fn print_listing<W: Write>(
     Ok(())
 }
 
+// What the program prints for these rules and this bundle.
+fn clean<W: Write>(out: &mut W, rules: &[u8], bundle: &[u8]) -> io::Result<()>
+    ensures { OnOk result (Appends (W.contents out.old) (W.contents out.new) (listing_of rules.now bundle.now)) }
+{
+    let mut marks = [0u8; Fact::MOST];
+    let mut partners = [0u16; Fact::MOST];
+    let counted = operations::mark_bundle(rules, bundle, &mut marks, &mut partners);
+    print_listing(out, counted, &marks, &partners)
+}
+
 fn main(rt: HostRuntime) -> io::Result<()> {
     let mut rules = [0u8; 65536];
     let mut bundle = [0u8; 65536];
     let rules_count = read_file(&rt, "rules.bin", &mut rules);
     let bundle_count = read_file(&rt, "bundle.bin", &mut bundle);
-    let mut marks = [0u8; Fact::MOST];
-    let mut partners = [0u16; Fact::MOST];
-    let counted = operations::mark_bundle(
+    clean(
+        &mut io::writer(&rt),
         &rules[..rules_count],
         &bundle[..bundle_count],
-        &mut marks,
-        &mut partners,
-    );
-    print_listing(&mut io::writer(&rt), counted, &marks, &partners)
+    )
 }
