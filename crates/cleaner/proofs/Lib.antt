@@ -1,2 +1,3 @@
 pub mod OfLongFiles
 pub mod OfPrinting
+pub mod OfWholeListing

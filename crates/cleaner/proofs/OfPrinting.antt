@@ -1,10 +1,10 @@
 -- Printing stays within the rows: marking gives counts only where both rows have room for every fact, so each line's fact has its mark and partner.
 use Prim.Native.Nat.{ℕ, ◌+◌, ◌≤◌, ◌<◌}
-use mathlib.Core.Path.{◌≡◌, refl, sym}
+use mathlib.Core.Path.{◌≡◌, refl}
 use mathlib.Core.Bool.{Bool, true, false, cond, ◌&&◌}
 use mathlib.Core.List.{List}
-use lib.ListN.{length, take}
-use lib.Seq.{length-take-le, length-sets}
+use lib.ListN.{length}
+use lib.Seq.{length-sets}
 use lib.Dec.{leb}
 use native.Mathlib.Omega.{arith}
 use borrow.Author.Tests.{leb-true}
@@ -22,7 +22,7 @@ use Rattle.clashes.specs.Marks.{marks, partners, counts}
 use Rattle.clean.specs.Operations.{Marked, given, room_for_marks, marking}
 use Rattle.operations.specs.Promises.{counted_told, MarksAll}
 use Rattle.operations.specs.declared.mark.Counted.{Counted}
-use Rattle.listing.specs.Listing.{lines_of, Within}
+use Rattle.listing.specs.Listing.{lines_of}
 use Rattle.cleaner.specs.Prints.{Prints}
 
 -- what holds of every refusal and of all that may follow holds of the answer
@@ -35,38 +35,42 @@ both_tests P true true x y hold fail = hold refl refl
 both_tests P true false x y hold fail = fail
 both_tests P false u x y hold fail = fail
 
+-- marks of facts, whatever the room
+abbrev pub marks_of : Follows → List Fact → Marked
+marks_of t facts = record { counts = counts itself t facts; marks = marks itself t facts; partners = partners itself t facts }
+
+-- what holds of every refusal, and of the marks of all facts that both rows have room for, holds of what marking gives
+module _ (rules bundle : List ℕ) (m p : ℕ) (P : Answer Marked → Type 0) (stops : (r : Refusal) → P (refuses r)) (fits : (t : Follows) (facts : List Fact) → length facts ≤ m → length facts ≤ p → P (gives (marks_of t facts))) where
+  room_all : (facts : List Fact) (k : List Fact → Answer Marked) → (length facts ≤ m → length facts ≤ p → P (k facts)) → P (room_for_marks m p facts then k)
+  unfolding room_for_marks
+  room_all facts k fit =
+      both_tests (λ a. P (a then k)) (leb (length facts) m) (leb (length facts) p) (gives facts) (refuses (refusal 9 2 0))
+      (λ t u. fit (leb-true (length facts) m t) (leb-true (length facts) p u))
+      (stops (refusal 9 2 0))
+
+  abbrev marked_by : Follows → List Fact → Answer Marked
+  marked_by t facts = room_for_marks m p facts then λ _. gives (marks_of t facts)
+
+  bundle_all : (h : Head) → P (read_bundle h bundle then marked_by (follows_of (site_of rules h)))
+  bundle_all h =
+      then_all P (read_bundle h bundle) (marked_by (follows_of (site_of rules h))) stops
+      (λ facts. room_all facts (λ _. gives (marks_of (follows_of (site_of rules h)) facts)) (fits (follows_of (site_of rules h)) facts))
+
+  pub marking_all : P (marking rules bundle m p)
+  unfolding marking given
+  marking_all = then_all P (check_rules rules) (λ h. read_bundle h bundle then marked_by (follows_of (site_of rules h))) stops bundle_all
+
 -- the lines are no more than the rows have room for, and one for the counts
 module _ (rules bundle : List ℕ) (m p : ℕ) where
   abbrev Fits : Answer Marked → Type 0
   Fits a = (lines_of (over (λ x. x.counts) a) ≤ m + 1) × (lines_of (over (λ x. x.counts) a) ≤ p + 1)
 
-  stops : (r : Refusal) → Fits (refuses r)
-  stops r = (omega arith, omega arith)
-
-  room_all : (facts : List Fact) (k : List Fact → Answer Marked) → (length facts ≤ m → length facts ≤ p → Fits (k facts)) → Fits (room_for_marks m p facts then k)
-  unfolding room_for_marks
-  room_all facts k fit =
-      both_tests (λ a. Fits (a then k)) (leb (length facts) m) (leb (length facts) p) (gives facts) (refuses (refusal 9 2 0))
-      (λ t u. fit (leb-true (length facts) m t) (leb-true (length facts) p u))
-      (stops (refusal 9 2 0))
-
-  abbrev marked_by : Follows → List Fact → Answer Marked
-  marked_by t facts =
-      room_for_marks m p facts then λ _. gives (record { counts = counts itself t facts; marks = marks itself t facts; partners = partners itself t facts })
-
-  facts_fit : (t : Follows) (facts : List Fact) → Fits (marked_by t facts)
+  facts_fit : (t : Follows) (facts : List Fact) → length facts ≤ m → length facts ≤ p → Fits (gives (marks_of t facts))
   unfolding counts
-  facts_fit t facts =
-      room_all facts (λ _. gives (record { counts = counts itself t facts; marks = marks itself t facts; partners = partners itself t facts }))
-      (λ a b. (omega arith, omega arith))
-
-  bundle_fits : (h : Head) → Fits (read_bundle h bundle then marked_by (follows_of (site_of rules h)))
-  bundle_fits h =
-      then_all Fits (read_bundle h bundle) (marked_by (follows_of (site_of rules h))) stops (facts_fit (follows_of (site_of rules h)))
+  facts_fit t facts a b = (omega arith, omega arith)
 
   lines_fit : Fits (marking rules bundle m p)
-  unfolding marking given
-  lines_fit = then_all Fits (check_rules rules) (λ h. read_bundle h bundle then marked_by (follows_of (site_of rules h))) stops bundle_fits
+  lines_fit = marking_all rules bundle m p Fits (λ r. (omega arith, omega arith)) facts_fit
 
 same_length : (row : List ℕ) (a : Answer (List ℕ)) → length (laid row 0 a) ≡ length row
 same_length row (gives l) = length-sets row 0 l
@@ -84,16 +88,3 @@ prints rules bundle row pair r row' pair' all =
     some_line : (a : Answer _) → 0 < lines_of a
     some_line (gives c) = omega arith
     some_line (refuses r) = omega arith
-
--- a line of the listing
-module _ (counted : Counted) (marks partners : List ℕ) where
-  pub prints_line : (count number : ℕ) → Prints counted marks partners 0 → count ≡ lines_of (counted_told counted) → number < count → Prints counted marks partners number
-  prints_line count number all e h = record { marked = all.marked; partnered = all.partnered; within = omega arith }
-
-  pub line_within : (number : ℕ) → Prints counted marks partners number → Within marks partners number
-  line_within number all = record { marked = omega (arith, all.marked, all.within); partnered = omega (arith, all.partnered, all.within) }
-
-pub start_of : (r : ℕ) (line : List ℕ) → r ≤ length line → r ≡ length (take r line)
-start_of r line h = sym (length-take-le r line h)
-
-pub ruleset printing = (prints, prints_line, line_within, start_of, rules)

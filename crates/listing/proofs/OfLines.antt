@@ -16,7 +16,7 @@ use Rattle.operations.specs.declared.mark.Counted.TheVariants.{Counts as CountsA
 use Rattle.listing.specs.Decimal.{decimal_of}
 use Rattle.listing.specs.Put.{Laid, LaidNumber, LaidNamed, named}
 use Rattle.listing.specs.Lines.{facts_word, kept_count, alone_count, disputed_word, kept_word, alone_word, refused_word, rules_word, bundle_word, newline, counts_line, mark_of, fact_line, place_of, refusal_line, LaidMark, LaidPlace, Line}
-use Rattle.listing.specs.Listing.{lines_of, line_at}
+use Rattle.listing.specs.Listing.{line_at}
 use Rattle.listing.proofs.OfPutting.{laid_both}
 
 -- a run from the start that fits is a line
@@ -101,9 +101,6 @@ module _ (refusal : Refusal) {o₀ o₁ o₂ o₃ : List ℕ} {a b r : ℕ} wher
 
 -- which line is which
 module _ (counted : Counted) (counts : Counts) (is : counted ≡ CountsAre counts) where
-  pub lines_of_counts : counts.facts + 1 ≡ lines_of (counted_told counted)
-  lines_of_counts = rw is
-
   module _ (marks partners out : List ℕ) (k r : ℕ) (out' : List ℕ) where
     pub line_of_counts : k ≡ 0 → Line out (counts_line counts) r out' → Line out (line_at (counted_told counted) marks partners k) r out'
     unfolding line_at
@@ -114,11 +111,8 @@ module _ (counted : Counted) (counts : Counts) (is : counted ≡ CountsAre count
     line_of_fact f l = rw (is, ne_eqb k 0 f) l
 
 module _ (counted : Counted) (refusal : Refusal) (is : counted ≡ NotCounted refusal) where
-  pub lines_of_refusal : 1 ≡ lines_of (counted_told counted)
-  lines_of_refusal = rw is
-
   pub line_of_refusal : (marks partners out : List ℕ) (k r : ℕ) (out' : List ℕ) → Line out (refusal_line refusal) r out' → Line out (line_at (counted_told counted) marks partners k) r out'
   unfolding line_at
   line_of_refusal marks partners out k r out' l = rw is l
 
-pub ruleset lines = (mark_kept, mark_alone, mark_disputed, place_rules, place_bundle, lines_of_counts, lines_of_refusal, line_of_counts, line_of_fact, line_of_refusal, rules)
+pub ruleset lines = (mark_kept, mark_alone, mark_disputed, place_rules, place_bundle, line_of_counts, line_of_fact, line_of_refusal, rules)

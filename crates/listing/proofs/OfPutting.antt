@@ -1,11 +1,10 @@
 -- Putting bytes into a line: two runs of bytes one after the other are one run, a word goes in byte by byte, a number by its tenth and its last digit.
-use Prim.Native.Nat.{ℕ, suc, ◌+◌, ◌-◌, ◌/◌, ◌%◌, ◌^◌, ◌≤◌, ◌<◌}
+use Prim.Native.Nat.{ℕ, suc, ◌+◌, ◌/◌, ◌%◌, ◌^◌, ◌≤◌, ◌<◌}
 use mathlib.Core.Path.{◌≡◌, refl, sym, ap, ◌∙◌}
 use mathlib.Core.List.{List, [], ◌∷◌, ◌++◌}
-use lib.ListN.{length, get_or, drop, set, length-set, length-append}
-use lib.Seq.{sets, length-sets, drop-cons, drop-length}
+use lib.ListN.{length, drop, set, length-append}
+use lib.Seq.{sets, length-sets}
 use native.Mathlib.Nat.{add-zero}
-use native.Mathlib.Numerals.{add-one}
 use native.Mathlib.Omega.{arith}
 use borrow.Author.Rules.{rules}
 use Rattle.listing.specs.Decimal.{digit, decimal_of}
@@ -56,25 +55,6 @@ pub record Putting (out₀ : List ℕ) (at : ℕ) (word out : List ℕ) (p i : �
   pub size : length out ≡ length out₀
   pub same : sets out p (drop i word) ≡ sets out₀ at word
 
-module _ (out₀ : List ℕ) (at : ℕ) (word : List ℕ) where
-  pub putting_starts : Putting out₀ at word out₀ at 0
-  putting_starts = record { place = sym (add-zero at); within = omega arith; size = refl; same = refl }
-
-  module _ (out : List ℕ) (p i : ℕ) (so_far : Putting out₀ at word out p i) where
-    pub putting_on : i < length word → Putting out₀ at word (set out p (get_or word i 0)) (p + 1) (i + 1)
-    putting_on h =
-        record {
-          place = omega (arith, so_far.place);
-          within = omega arith;
-          size = length-set out p (get_or word i 0) ∙ so_far.size;
-          same = rw (add-one p, add-one i) (rw (drop-cons word i 0 h) at so_far.same);
-        }
-
-    pub putting_ends : length word ≤ i → Laid out₀ at word p out
-    putting_ends h =
-        let end : i ≡ length word = omega (arith, so_far.within) in
-        laid out₀ at word p out (so_far.place ∙ ap (λ (k : ℕ). at + k) end) (rw (end, drop-length word) at so_far.same)
-
 -- a word and its number
 module _ (out : List ℕ) (at : ℕ) (word : List ℕ) (n p : ℕ) (mid : List ℕ) (first : Laid out at word p mid) where
   pub named_room : at + length word + 20 ≤ length out → p + 20 ≤ length mid
@@ -85,4 +65,4 @@ module _ (out : List ℕ) (at : ℕ) (word : List ℕ) (n p : ℕ) (mid : List �
   named_laid r out' second =
       record { laid = laid_both out at word p mid (decimal_of n) r out' first second.laid; few = omega (arith, first.place, second.few) }
 
-pub ruleset putting = (number_one, in_last, number_more, putting_starts, putting_on, putting_ends, named_room, named_laid, rules)
+pub ruleset putting = (number_one, in_last, number_more, named_room, named_laid, rules)

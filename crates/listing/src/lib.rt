@@ -1,4 +1,6 @@
 // The program's listing, as bytes in a lent line: the counts, one fact, a refusal, and which of them each line of the listing is.
+#![tactic(auto)]
+
 mod lines;
 mod listing;
 mod put;

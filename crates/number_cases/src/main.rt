@@ -1,5 +1,7 @@
 // Runs the number crate over document 01's seven cases, over every string of no, one and two bytes and over strings of three bytes at the
 // boundaries, reading each and writing each accepted value back, and prints how often it agrees with what is expected.
+#![tactic(auto)]
+
 ghost use Rattle.std.specs.Prelude.{◌≤◌};
 
 mod compare;
@@ -7,6 +9,7 @@ mod expected;
 
 use compare::{read, stopped, written};
 use expected::{Wanted, digit, expected};
+use std::io;
 
 // What is tried: a case of the document, reading a string, writing its value, and writing it where there is no room.
 #[derive(Clone, Copy)]
@@ -140,17 +143,12 @@ fn judge(task: Task, length: usize, i: u32) -> Verdict {
 }
 
 // One line of what is printed.
-fn report(name: &[u8], agree: u32, differ: u32) {
-    io::write_all(1, name);
-    io::write_all(1, b": ");
-    io::print_decimal(1, agree as u64);
-    io::write_all(1, b" agree, ");
-    io::print_decimal(1, differ as u64);
-    io::write_all(1, b" differ\n");
+fn report(rt: &impl Print, name: &str, agree: u32, differ: u32) -> io::Result<()> {
+    println!(rt; "{name}: {agree} agree, {differ} differ")
 }
 
 // One task over the first strings of so many bytes.
-fn sweep(name: &[u8], task: Task, length: usize, count: u32) {
+fn sweep(rt: &impl Print, name: &str, task: Task, length: usize, count: u32) -> io::Result<()> {
     let mut agree: u32 = 0;
     let mut differ: u32 = 0;
     let mut i: u32 = 0;
@@ -160,19 +158,19 @@ fn sweep(name: &[u8], task: Task, length: usize, count: u32) {
         differ += v.differed();
         i += 1;
     }
-    report(name, agree, differ);
+    report(rt, name, agree, differ)
 }
 
-fn main() {
-    sweep(b"cases", Task::Case, 0, 7);
-    sweep(b"read no byte", Task::Read, 0, 1);
-    sweep(b"read one byte", Task::Read, 1, 256);
-    sweep(b"read two bytes", Task::Read, 2, 65536);
-    sweep(b"read three bytes", Task::Read, 3, 12544);
-    sweep(b"write one byte", Task::Write, 1, 256);
-    sweep(b"write two bytes", Task::Write, 2, 65536);
-    sweep(b"write three bytes", Task::Write, 3, 12544);
-    sweep(b"no room for one byte", Task::NoRoom, 1, 256);
-    sweep(b"no room for two bytes", Task::NoRoom, 2, 65536);
-    sweep(b"no room for three bytes", Task::NoRoom, 3, 12544);
+fn main(rt: HostRuntime) -> io::Result<()> {
+    sweep(&rt, "cases", Task::Case, 0, 7)?;
+    sweep(&rt, "read no byte", Task::Read, 0, 1)?;
+    sweep(&rt, "read one byte", Task::Read, 1, 256)?;
+    sweep(&rt, "read two bytes", Task::Read, 2, 65536)?;
+    sweep(&rt, "read three bytes", Task::Read, 3, 12544)?;
+    sweep(&rt, "write one byte", Task::Write, 1, 256)?;
+    sweep(&rt, "write two bytes", Task::Write, 2, 65536)?;
+    sweep(&rt, "write three bytes", Task::Write, 3, 12544)?;
+    sweep(&rt, "no room for one byte", Task::NoRoom, 1, 256)?;
+    sweep(&rt, "no room for two bytes", Task::NoRoom, 2, 65536)?;
+    sweep(&rt, "no room for three bytes", Task::NoRoom, 3, 12544)
 }
