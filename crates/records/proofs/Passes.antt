@@ -88,9 +88,6 @@ pub record Passing (h : Head) (rs : List Record) (n : ℕ) (out₀ : List ℕ) (
   pub memory : memory_after h out w (map fact_of (take left (drop i rs))) ≡ memory_after h out₀ w₀ (map fact_of (take n rs))
 
 module _ (h : Head) (rs : List Record) (n : ℕ) (out₀ : List ℕ) (w₀ : Writing) where
-  pub pass_starts : Passing h rs n out₀ w₀ n 0 out₀ w₀
-  pass_starts = record { long = refl; state = refl; memory = refl }
-
   module _ (left i : ℕ) (out : List ℕ) (w : Writing) (inv : Passing h rs n out₀ w₀ left i out w) where
     pub pass_on : (m : ℕ) → left ≡ suc m → (d : Record) → i < length rs → (w' : Writing) (out' : List ℕ) → length out' ≡ length out → Pushes h out w (fact_of (get_or rs i d)) w' out'
         → Passing h rs n out₀ w₀ m (i + 1) out' w'
