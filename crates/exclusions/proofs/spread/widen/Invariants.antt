@@ -4,7 +4,7 @@ use Rattle.exclusions.specs.Lowering.{WidenedTo}
 use Rattle.exclusions.proofs.spread.widen.Given as goal
 
 abbrev pub invariant-loop-i : goal.invariant-loop-i
-invariant-loop-i l = WidenedTo l.i l.d.concepts l.d.roles l.by l.initial.t l.t
+invariant-loop-i l = WidenedTo l.i l.fn.d.concepts l.fn.d.roles l.by l.initial.t l.t
 
 abbrev pub decreases-loop-i : goal.decreases-loop-i
 decreases-loop-i l = l.n - l.i
