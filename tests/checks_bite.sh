@@ -178,7 +178,9 @@ said() {
 ok='rt: ok; handles allowed: none'
 rest='every proof and must-fail edit was done in this run\n3 passed, 0 failed'
 said passes "$ok; must-fail edits: 2 refused; $rest"
-said passes "$ok; must-fail edits: 2 refused, 1 of them only by a limit; done in this run: 0 of the 3 proofs"
+said fails "$ok; must-fail edits: 2 refused, 1 of them only by a limit; done in this run: 0 of the 3 proofs"
+said fails "rt: must-fail low/one.edit: refused, as it must be (only because a proof file names what the edit took away, so this says little): a\n$ok; must-fail edits: 2 refused; $rest"
+said passes "rt: must-fail low/one.edit: refused, as it must be: a\n$ok; must-fail edits: 2 refused; $rest"
 said fails "$ok; must-fail edits: 2 refused, 1 bad; $rest"
 said fails "$ok; must-fail edits: 1 refused, 1 of them only by a limit, 1 bad; $rest"
 said fails "$ok; must-fail edits: 1 refused; $rest"

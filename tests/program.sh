@@ -79,6 +79,13 @@ prints "a rule kind that there is not" <<<"refused 11 in rules at 3"
 bytes '00 00 01 04 00' >"$work/site/rules.bin"
 prints "a role that is not declared" <<<"refused 5 in rules at 4"
 
+if (cd "$work/site" && "$x86" run "$program") >/dev/full 2>"$work/said" || ! [ -s "$work/said" ]; then
+  echo "FAILED: an output that is full is told of"
+  bad=1
+else
+  echo "ok: an output that is full is told of"
+fi
+
 site
 mkdir "$work/site/rules.bin"
 prints "a folder in the place of a file" <<<"refused 1 in rules at 0"

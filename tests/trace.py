@@ -19,7 +19,7 @@ The names before a path in brackets are declared there (definition, theorem, cod
 A line `<!-- .. -->` is not read.
 Every public operation has a heading `### dzy_..` with its promise, the theorem that it leaves one answer, and three
 wrong versions or answers at least, and is tied to its promise in crates/face/specs/Face.antt, and under its C name in
-crates/dzyunagor_c/proofs/Exported.antt; what that crate gives to C is just these operations, each with the contract, word
+crates/dzyunagor_c/proofs/Exports.antt; what that crate gives to C is just these operations, each with the contract, word
 for word, that the library's function of that name has. Every wrong version of the repository stands somewhere.
 docs/EXCEPTIONS.md lists every public function with a `requires`.
 """
@@ -38,7 +38,7 @@ DOCUMENTS = pathlib.Path(os.environ.get("DOCUMENTS", HERE.parent / "shared"))
 KINDS = ("definition", "theorem", "code", "wrong version", "test", "document")
 PART = re.compile(r"`([^`]+)`|\(([^)\s]+)\)")
 LIBRARY, TO_C = "crates/dzyunagor/src/lib.rt", "crates/dzyunagor_c/src/lib.rt"
-TIED = ("crates/face/specs/Face.antt", "crates/dzyunagor_c/proofs/Exported.antt")
+TIED = ("crates/face/specs/Face.antt", "crates/dzyunagor_c/proofs/Exports.antt")
 bad = []
 
 

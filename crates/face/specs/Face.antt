@@ -1,4 +1,4 @@
--- The face: the code of each function that C calls meets its promise, wherever it is called. This page ties the promises to the functions: a
+-- The face: the code of each public operation meets its promise, wherever it is called. This page ties the promises to the functions: a
 -- contract in crates/dzyunagor/src/lib.rt that says less, or that asks anything of its caller, does not fit here and is refused.
 use seplogic.Ra.Ura.{Ura}
 use prog.Model.{Model}

@@ -1,4 +1,4 @@
-// Rows of records and the reader: the functions over a slice of records and over a struct that holds a slice, each a walk over covered functions of records.
+// Rows of records and the reader: the functions over a slice of records and over a struct that holds a slice, each over functions of records.
 #![tactic(auto)]
 
 mod handing;
