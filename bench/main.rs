@@ -10,8 +10,9 @@ mod sql;
 use make::{bundle_bytes, make_facts, make_site, rule_bytes, Things};
 use plain::{follow, mark_hashed, mark_pairs, read_site, Marks, Site, NODES};
 use std::hint::black_box;
+use text::follows::Tables;
 use text::rule::Head;
-use text::rules::{check_rules, RulesRead};
+use text::rules::check_rules;
 
 /// The seconds that one measurement lasts at least, how many there are of each action in a turn, and the turns.
 const LONG: f64 = 0.002;
@@ -65,23 +66,13 @@ fn ratio(ours: f64, theirs: f64) -> String {
     }
 }
 
-/// What the library's text fills.
-struct Tables {
-    included: text::tables::Table,
-    excluded: text::tables::Table,
-    functional: u64,
-}
-
 fn head_of(rules: &[u8]) -> Head {
-    match check_rules(rules) {
-        RulesRead::Accepted(head) => head,
-        RulesRead::Refused(r) => panic!("rules refused: {} at {}", r.number, r.place),
-    }
+    check_rules(rules).unwrap_or_else(|r| panic!("rules refused: {} at {}", u32::from(r.fault), r.place))
 }
 
 fn fill(rules: &[u8], head: Head) -> Tables {
-    let mut t = Tables { included: text::tables::BLANK, excluded: text::tables::BLANK, functional: 0 };
-    t.functional = text::follows::fill(rules, head, &mut t.included, &mut t.excluded);
+    let mut t = Tables::empty();
+    t.fill(rules, head);
     t
 }
 
@@ -91,8 +82,8 @@ fn same_tables(rules: &[u8]) -> (usize, usize) {
     let (mut included, mut excluded) = (0, 0);
     for x in 0..NODES {
         for y in 0..NODES {
-            assert_eq!(text::tables::get(&ours.included, x, y), theirs.included[x][y], "included {x} {y}");
-            assert_eq!(text::tables::get(&ours.excluded, x, y), theirs.excluded[x][y], "excluded {x} {y}");
+            assert_eq!(ours.included.get(x, y), theirs.included[x][y], "included {x} {y}");
+            assert_eq!(ours.excluded.get(x, y), theirs.excluded[x][y], "excluded {x} {y}");
             included += usize::from(theirs.included[x][y]);
             excluded += usize::from(theirs.excluded[x][y]);
         }
@@ -114,7 +105,7 @@ fn table_line(name: &str, site: &Site) {
 
 fn measure_tables() {
     println!("## The tables of what follows\n");
-    println!("`follows::fill` beside bool matrices (Warshall, then the exclusions until nothing is new), both from the rule file's bytes.\n");
+    println!("`Tables::fill` beside bool matrices (Warshall, then the exclusions until nothing is new), both from the rule file's bytes.\n");
     println!("| concepts / roles / rules | pairs included | pairs excluded | text | plain | ratio |\n|---|---|---|---|---|---|");
     table_line("10 / 5 / 40, nothing empty", &make_site(1, 10, 5, 40, true));
     table_line("30 / 20 / 200, nothing empty", &make_site(2, 30, 20, 200, true));

@@ -27,13 +27,14 @@ def crates():
 CRATES = crates()
 PATH = re.compile(r"(?<![\w:])(crate|" + "|".join(CRATES) + r")::")
 MODEL = re.compile(r"(?m)^impl(?:<[^>]*>)? Model for [^{]*\{\s*\}\n")
+BROUGHT = re.compile(r"(?m)^use std::marker::Model;\n")
 DERIVE = re.compile(r"#\[derive\(([^)]*)\)\]")
 
 
 def derived(found):
-    """A derive without Rattle's own Drop, which Rust gives every type."""
+    """A derive without Rattle's own Drop, which Rust gives every type, and with Debug, which Rust's `unwrap_err` asks for."""
     names = [name.strip() for name in found[1].split(",") if name.strip() not in ("", "Drop")]
-    return f"#[derive({', '.join(names)})]" if names else ""
+    return f"#[derive({', '.join([*names, 'Debug'])})]"
 
 
 def translated(text, crate):
@@ -41,7 +42,7 @@ def translated(text, crate):
     # a crate's own module goes before a crate of the same name
     own = re.findall(r"^mod (\w+);$", body, flags=re.M)
     body = PATH.sub(lambda found: found[0] if found[1] in own else "crate::" + (crate if found[1] == "crate" else found[1]) + "::", body)
-    body = DERIVE.sub(derived, MODEL.sub("", body))
+    body = DERIVE.sub(derived, MODEL.sub("", BROUGHT.sub("", body)))
     return body.replace("#[unsafe(no_mangle)]\n", "").replace('pub extern "C" fn', "pub fn")
 
 

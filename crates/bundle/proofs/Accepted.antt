@@ -5,9 +5,11 @@ use mathlib.Core.Bool.{true}
 use mathlib.Core.List.{List}
 use lib.ListN.{length}
 use native.Mathlib.Omega.{arith}
-use Rattle.number.specs.Answer.{Answer, Read, ◌then◌}
-use Rattle.number.specs.Answer.Answer.{gives}
+use Rattle.number.specs.Answer.{Answer, ◌then◌}
+use Rattle.std.specs.Prelude.{Ok}
 use Rattle.number.specs.Number.{number_at}
+use Rattle.number.specs.declared.read.Read.{Read}
+use Rattle.number.specs.declared.refusal.Side.TheVariants.{Bundle}
 use Rattle.number.proofs.Laws.{bounds}
 use Rattle.number.proofs.Answers.{given_once as same-given, went}
 use Rattle.site.specs.declared.fact.Fact.{Fact}
@@ -16,8 +18,9 @@ use Rattle.site.specs.Kinds.{of_concept}
 use Rattle.site.specs.Limits.{most_facts, most_number, most_thing}
 use Rattle.site.proofs.There.{count_there, end_there}
 use Rattle.rule.specs.declared.head.Head.{Head}
-use Rattle.bundle.specs.Bundle.{Last, facts_from, facts_of, predicate_known, check_bundle}
-use Rattle.bundle.specs.Bundle.Last.{none}
+use Rattle.bundle.specs.Bundle.{facts_from, facts_of, predicate_known, check_bundle}
+use Rattle.std.specs.Prelude.{Option}
+use Rattle.std.specs.Prelude.{None}
 use Rattle.bundle.specs.Lawful.{LawfulFact, LawfulFrom, LawfulFacts}
 use Rattle.bundle.specs.Lawful.LawfulFrom.{done, next}
 use Rattle.bundle.specs.declared.facts.Facts.{Facts}
@@ -29,7 +32,7 @@ use Rattle.bundle.proofs.Runs.Run.{stop, more}
 module _ (h : Head) (s : List ℕ) where
   object_bound : {place : ℕ} {f : Fact} {next : ℕ} → ObjectThere s place f next → f.object ≤ most_thing
   object_bound (of_concept_lem is zero-object place_is) = omega arith
-  object_bound {place} {f} {next} (of_role is there) = (bounds s place most_thing 1 f.object next there).within
+  object_bound {place} {f} {next} (of_role is there) = (bounds s place most_thing Bundle f.object next there).within
 
   concept_object : {place : ℕ} {f : Fact} {next : ℕ} → ObjectThere s place f next → of_concept f ≡ true → f.object ≡ 0
   concept_object (of_concept_lem is zero-object place_is) e = zero-object
@@ -39,35 +42,35 @@ module _ (h : Head) (s : List ℕ) where
   lawful_fact {at} {f} {next} t =
       record {
         known = t.holds;
-        subject_within = (bounds s t.place_of_subject most_thing 1 f.subject t.place_of_object t.subject).within;
+        subject_within = (bounds s t.place_of_subject most_thing Bundle f.subject t.place_of_object t.subject).within;
         object_within = object_bound t.object;
         no_object = concept_object t.object;
       }
 
-  pub run_lawful : {last : Last} {fs : List Fact} {at end : ℕ} → Run (predicate_known h) s last fs at end → LawfulFrom h last fs
+  pub run_lawful : {last : Option Fact} {fs : List Fact} {at end : ℕ} → Run (predicate_known h) s last fs at end → LawfulFrom h last fs
   run_lawful stop = done
   run_lawful (more there up run) = next (lawful_fact there) up (run_lawful run)
 
 -- a bundle that was accepted: its count, and its facts from the start to the end of the bytes
 pub record BundleThere (h : Head) (s : List ℕ) (b : Facts) : Type 0 where
-  pub count_number : number_at s 0 most_number 1 ≡ gives (record { value = b.count; next = b.start })
+  pub count_number : number_at s 0 most_number Bundle ≡ Ok (record { value = b.count; next = b.start })
   pub count_within : b.count ≤ most_facts
   pub end : ℕ
-  pub run : Run (predicate_known h) s none (facts_of s b) b.start end
+  pub run : Run (predicate_known h) s None (facts_of s b) b.start end
   pub count : length (facts_of s b) ≡ b.count
   pub at_end : length s ≤ end
 
-module _ (h : Head) (s : List ℕ) (b : Facts) (e : check_bundle h s ≡ gives b) where
+module _ (h : Head) (s : List ℕ) (b : Facts) (e : check_bundle h s ≡ Ok b) where
   pub bundle_there : BundleThere h s b
   unfolding check_bundle
   bundle_there =
-      let k₃ : ℕ → ℕ → ℕ → Answer Facts = λ count start end. gives (record { count = count; start = start }) in
-      let k₂ : Read ℕ → ℕ → Answer Facts = λ n end. end_at s end 1 then k₃ n.value n.next in
-      let w = went (count_at s 0 most_facts 1) (λ n. facts_from (predicate_known h) s n.value n.next then k₂ n) e in
+      let k₃ : ℕ → ℕ → ℕ → Answer Facts = λ count start end. Ok (record { count = count; start = start }) in
+      let k₂ : Read ℕ → ℕ → Answer Facts = λ n end. end_at s end Bundle then k₃ n.value n.next in
+      let w = went (count_at s 0 most_facts Bundle) (λ n. facts_from (predicate_known h) s n.value n.next then k₂ n) e in
       let v = went (facts_from (predicate_known h) s w.value.value w.value.next) (k₂ w.value) w.rest in
-      let u = went (end_at s v.value 1) (k₃ w.value.value w.value.next) v.rest in
+      let u = went (end_at s v.value Bundle) (k₃ w.value.value w.value.next) v.rest in
       let same : record { count = w.value.value; start = w.value.next } ≡ b = same-given u.rest in
-      let c = count_there s 0 most_facts 1 w.value w.first in
+      let c = count_there s 0 most_facts Bundle w.value w.first in
       let r = walk_there (predicate_known h) s w.value.value w.value.next v.value v.first in
       let there : BundleThere h s (record { count = w.value.value; start = w.value.next }) = record {
         count_number = c.number;
@@ -75,7 +78,7 @@ module _ (h : Head) (s : List ℕ) (b : Facts) (e : check_bundle h s ≡ gives b
         end = v.value;
         run = r.run;
         count = r.count;
-        at_end = end_there s v.value 1 u.value u.first;
+        at_end = end_there s v.value Bundle u.value u.first;
       } in
       rw same at there
 

@@ -2,9 +2,10 @@
 use Prim.Native.Nat.{ℕ}
 use mathlib.Core.Path.{◌≡◌, refl}
 use mathlib.Core.List.{List, [], ◌∷◌, map}
-use Rattle.number.specs.Answer.{Answer, refusal, of_item}
-use Rattle.number.specs.Answer.Answer.{gives, refuses}
+use Rattle.number.specs.Answer.{Answer, refusal, of_item, fault_of}
+use Rattle.std.specs.Prelude.{Ok, Err}
 use Rattle.number.specs.Number.{third, second, form_of, number_at}
+use Rattle.number.specs.declared.refusal.Side.TheVariants.{Bundle}
 use Rattle.site.specs.declared.fact.Fact.{Fact}
 use Rattle.site.specs.Codes.{predicate_declared}
 use Rattle.site.specs.Items.{tested_at, at_most, items_from, end_at}
@@ -16,15 +17,15 @@ pub record Case : Type 0 where
   pub expected : Answer (List Fact)
 
 abbrev pub is : List ℕ → List Fact → Case
-is bytes facts = record { bytes = bytes; expected = gives facts }
+is bytes facts = record { bytes = bytes; expected = Ok facts }
 
 -- refused in the header or after the last fact
 abbrev pub refused : List ℕ → ℕ → ℕ → Case
-refused bytes number place = record { bytes = bytes; expected = refuses (refusal number 1 place) }
+refused bytes number place = record { bytes = bytes; expected = Err (refusal (fault_of number) Bundle place) }
 
 -- refused in a fact
 abbrev pub refused_in : ℕ → List ℕ → ℕ → ℕ → Case
-refused_in item bytes number place = record { bytes = bytes; expected = refuses (of_item item (refusal number 1 place)) }
+refused_in item bytes number place = record { bytes = bytes; expected = Err (of_item item (refusal (fault_of number) Bundle place)) }
 
 abbrev pub fact : ℕ → ℕ → ℕ → Fact
 fact predicate subject object = record { predicate = predicate; subject = subject; object = object }

@@ -4,10 +4,10 @@ pub mod Left
 pub mod Longest
 pub mod OfOpened
 pub mod OneAnswer
-pub mod Reading
 pub mod Refusals
 pub mod RoundTrips
 pub mod Runs
 pub mod SubLawful
 pub mod OfFaults
 pub mod ItemCases
+pub mod OfFacts

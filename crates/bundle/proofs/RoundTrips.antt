@@ -8,8 +8,10 @@ use lib.ListN.{length, drop, length-append, drop_of_length-le}
 use native.Mathlib.Omega.{arith}
 use borrow.Author.Tests.{le-leb, le-ltb}
 use Rattle.number.specs.Answer.{Answer, over}
-use Rattle.number.specs.Answer.Answer.{gives, refuses}
+use Rattle.std.specs.Prelude.{Ok, Err}
 use Rattle.number.specs.Number.{number_at, bytes_of, three_bytes}
+use Rattle.number.specs.declared.refusal.Side.{Side}
+use Rattle.number.specs.declared.refusal.Side.TheVariants.{Bundle}
 use Rattle.number.proofs.Laws.{Bytes, one_form, reads_back}
 use Rattle.number.proofs.Answers.{never, given_once as same-given}
 use Rattle.site.specs.declared.fact.Fact.{Fact}
@@ -18,8 +20,9 @@ use Rattle.site.specs.Kinds.{of_concept}
 use Rattle.site.specs.Limits.{most_facts, most_number, most_roles, most_thing}
 use Rattle.site.specs.Lists.{each}
 use Rattle.rule.specs.declared.head.Head.{Head}
-use Rattle.bundle.specs.Bundle.{Last, facts_of, predicate_known, check_bundle, read_bundle, fact_bytes, bundle_of}
-use Rattle.bundle.specs.Bundle.Last.{none}
+use Rattle.bundle.specs.Bundle.{facts_of, predicate_known, check_bundle, read_bundle, fact_bytes, bundle_of}
+use Rattle.std.specs.Prelude.{Option}
+use Rattle.std.specs.Prelude.{None}
 use Rattle.bundle.specs.Lawful.{LawfulFact, LawfulFrom, LawfulFacts}
 use Rattle.bundle.specs.Lawful.LawfulFrom.{done, next as one_more}
 use Rattle.bundle.specs.declared.facts.Facts.{Facts}
@@ -30,8 +33,8 @@ use Rattle.bundle.proofs.Accepted.{bundle_there}
 use Rattle.bundle.proofs.Longest.{declared_low}
 
 -- a number whose bytes stand at a place
-number_there : (s before after : List ℕ) (v at next most side : ℕ) → s ≡ before ++ (bytes_of v ++ after) → at ≡ length before
-    → next ≡ at + length (bytes_of v) → v ≤ three_bytes → v ≤ most → number_at s at most side ≡ gives (record { value = v; next = next })
+number_there : (s before after : List ℕ) (v at next most : ℕ) (side : Side) → s ≡ before ++ (bytes_of v ++ after) → at ≡ length before
+    → next ≡ at + length (bytes_of v) → v ≤ three_bytes → v ≤ most → number_at s at most side ≡ Ok (record { value = v; next = next })
 number_there s before after v at next most side is-s is_at is-next formed within =
     rw (is-s, is-next, is_at) (reads_back v formed before after most side within)
 
@@ -58,7 +61,7 @@ module _ (h : Head) (few : h.roles ≤ most_roles) where
       → s ≡ before ++ (object_bytes t f ++ after) → at ≡ length before → next ≡ at + length (object_bytes t f) → ObjectThere s at f next
   object_written f l s before after at next true is is-s is_at is-next = of_concept_lem is (l.no_object is) (omega arith)
   object_written f l s before after at next false is is-s is_at is-next =
-      of_role is (number_there s before after f.object at next most_thing 1 is-s is_at is-next (omega (arith, l.object_within)) l.object_within)
+      of_role is (number_there s before after f.object at next most_thing Bundle is-s is_at is-next (omega (arith, l.object_within)) l.object_within)
 
   fact_written : (f : Fact) → LawfulFact h f → (s before after : List ℕ) (at next : ℕ) → s ≡ before ++ (fact_bytes f ++ after)
       → at ≡ length before → next ≡ at + length (fact_bytes f) → FactThere (predicate_known h) s at f next
@@ -76,14 +79,14 @@ module _ (h : Head) (few : h.roles ≤ most_roles) where
         place_of_subject = at + length p;
         place_of_object = at + length p + length a;
         holds = l.known;
-        predicate = number_there s before _ f.predicate at (at + length p) most_thing 1 is-p is_at refl (omega arith) (omega arith);
-        subject = number_there s (before ++ p) _ f.subject (at + length p) (at + length p + length a) most_thing 1 is_a at_a refl
+        predicate = number_there s before _ f.predicate at (at + length p) most_thing Bundle is-p is_at refl (omega arith) (omega arith);
+        subject = number_there s (before ++ p) _ f.subject (at + length p) (at + length p + length a) most_thing Bundle is_a at_a refl
             (omega (arith, l.subject_within)) l.subject_within;
         object = object_written f l s ((before ++ p) ++ a) after (at + length p + length a) next (of_concept f) refl is-o (moved (before ++ p) a (at + length p) at_a)
             (is-next ∙ (rw (length-append p (a ++ o), length-append a o) (omega arith)));
       }
 
-  run_written : {last : Last} {fs : List Fact} → LawfulFrom h last fs → (s before after : List ℕ) (at end : ℕ) → s ≡ before ++ (each fact_bytes fs ++ after)
+  run_written : {last : Option Fact} {fs : List Fact} → LawfulFrom h last fs → (s before after : List ℕ) (at end : ℕ) → s ≡ before ++ (each fact_bytes fs ++ after)
       → at ≡ length before → end ≡ at + length (each fact_bytes fs) → Run (predicate_known h) s last fs at end
   unfolding each
   run_written done s before after at end is-s is_at is-end =
@@ -98,20 +101,20 @@ module _ (h : Head) (few : h.roles ≤ most_roles) where
 
   -- what is written for lawful facts is accepted
   module _ (facts : List Fact) (lawful : LawfulFacts h facts) where
-    written_run : Run (predicate_known h) (bundle_of facts) none facts (length (bytes_of (length facts))) (length (bundle_of facts))
+    written_run : Run (predicate_known h) (bundle_of facts) None facts (length (bytes_of (length facts))) (length (bundle_of facts))
     unfolding bundle_of
     written_run =
         let n : List ℕ = bytes_of (length facts) in
         run_written lawful.lawful (n ++ each fact_bytes facts) n [] (length n) (length (n ++ each fact_bytes facts))
         (ap (λ m. n ++ m) (sym (append-nil (each fact_bytes facts)))) refl (length-append n (each fact_bytes facts))
 
-    written_count : number_at (bundle_of facts) 0 most_number 1 ≡ gives (record { value = length facts; next = length (bytes_of (length facts)) })
+    written_count : number_at (bundle_of facts) 0 most_number Bundle ≡ Ok (record { value = length facts; next = length (bytes_of (length facts)) })
     unfolding bundle_of
     written_count =
         let small = lawful.few in
-        number_there (bundle_of facts) [] (each fact_bytes facts) (length facts) 0 (length (bytes_of (length facts))) most_number 1 refl refl (omega arith) (omega arith) (omega arith)
+        number_there (bundle_of facts) [] (each fact_bytes facts) (length facts) 0 (length (bytes_of (length facts))) most_number Bundle refl refl (omega arith) (omega arith) (omega arith)
 
-    pub written_accepted : check_bundle h (bundle_of facts) ≡ gives (written_head facts)
+    pub written_accepted : check_bundle h (bundle_of facts) ≡ Ok (written_head facts)
     unfolding check_bundle tested_at at_most end_at
     written_accepted =
         rw (
@@ -125,15 +128,15 @@ module _ (h : Head) (few : h.roles ≤ most_roles) where
     pub written_facts : facts_of (bundle_of facts) (written_head facts) ≡ facts
     written_facts = run_reads (predicate_known h) (bundle_of facts) written_run
 
-    pub written_read : read_bundle h (bundle_of facts) ≡ gives facts
+    pub written_read : read_bundle h (bundle_of facts) ≡ Ok facts
     unfolding read_bundle
-    written_read = rw written_accepted (ap gives written_facts)
+    written_read = rw written_accepted (ap Ok written_facts)
 
 -- what was read is written again
 module _ (s : List ℕ) (bytes : Bytes s) where
   object_again : {place : ℕ} {f : Fact} {next : ℕ} → ObjectThere s place f next → drop place s ≡ object_bytes (of_concept f) f ++ drop next s
   object_again {place} {f} {next} (of_concept_lem is zero-object place_is) = rw (is, place_is)
-  object_again {place} {f} {next} (of_role is there) = rw is (one_form s place most_thing 1 f.object next there bytes).rest
+  object_again {place} {f} {next} (of_role is there) = rw is (one_form s place most_thing Bundle f.object next there bytes).rest
 
   fact_again : {known : ℕ → Bool} {at : ℕ} {f : Fact} {next : ℕ} → FactThere known s at f next → drop at s ≡ fact_bytes f ++ drop next s
   unfolding fact_bytes
@@ -141,20 +144,20 @@ module _ (s : List ℕ) (bytes : Bytes s) where
       let p : List ℕ = bytes_of f.predicate in
       let a : List ℕ = bytes_of f.subject in
       let o : List ℕ = object_bytes (of_concept f) f in
-      (one_form s at most_thing 1 f.predicate t.place_of_subject t.predicate bytes).rest
+      (one_form s at most_thing Bundle f.predicate t.place_of_subject t.predicate bytes).rest
       ∙ ap (λ m. p ++ m)
-      ((one_form s t.place_of_subject most_thing 1 f.subject t.place_of_object t.subject bytes).rest
+      ((one_form s t.place_of_subject most_thing Bundle f.subject t.place_of_object t.subject bytes).rest
       ∙ ap (λ m. a ++ m) (object_again t.object)
       ∙ sym (append_assoc a o (drop next s)))
       ∙ sym (append_assoc p (a ++ o) (drop next s))
 
-  run_again : {known : ℕ → Bool} {last : Last} {fs : List Fact} {at end : ℕ} → Run known s last fs at end → drop at s ≡ each fact_bytes fs ++ drop end s
+  run_again : {known : ℕ → Bool} {last : Option Fact} {fs : List Fact} {at end : ℕ} → Run known s last fs at end → drop at s ≡ each fact_bytes fs ++ drop end s
   unfolding each
   run_again stop = refl
   run_again (more {f = f} {fs = fs} {end = end} there up run) =
       fact_again there ∙ ap (λ m. fact_bytes f ++ m) (run_again run) ∙ sym (append_assoc (fact_bytes f) (each fact_bytes fs) (drop end s))
 
-  pub accepted_again : (h : Head) (b : Facts) → check_bundle h s ≡ gives b → bundle_of (facts_of s b) ≡ s
+  pub accepted_again : (h : Head) (b : Facts) → check_bundle h s ≡ Ok b → bundle_of (facts_of s b) ≡ s
   unfolding bundle_of
   accepted_again h b e =
       let t = bundle_there h s b e in
@@ -162,13 +165,13 @@ module _ (s : List ℕ) (bytes : Bytes s) where
       let rest : drop b.start s ≡ facts =
       run_again t.run ∙ ap (λ m. facts ++ m) (drop_of_length-le s t.at_end) ∙ append-nil facts in
       let whole : s ≡ bytes_of b.count ++ facts =
-      (one_form s 0 most_number 1 b.count b.start t.count_number bytes).rest ∙ ap (λ m. bytes_of b.count ++ m) rest in
+      (one_form s 0 most_number Bundle b.count b.start t.count_number bytes).rest ∙ ap (λ m. bytes_of b.count ++ m) rest in
       ap (λ n. bytes_of n ++ facts) t.count ∙ sym whole
 
-  read_whole : (h : Head) (a : Answer Facts) → check_bundle h s ≡ a → (facts : List Fact) → over (facts_of s) a ≡ gives facts → bundle_of facts ≡ s
-  read_whole h (gives b) is facts e = ap bundle_of (sym (same-given e)) ∙ accepted_again h b is
-  read_whole h (refuses r) is facts e = absurd (never e)
+  read_whole : (h : Head) (a : Answer Facts) → check_bundle h s ≡ a → (facts : List Fact) → over (facts_of s) a ≡ Ok facts → bundle_of facts ≡ s
+  read_whole h (Ok b) is facts e = ap bundle_of (sym (same-given e)) ∙ accepted_again h b is
+  read_whole h (Err r) is facts e = absurd (never e)
 
-  pub read_again : (h : Head) (facts : List Fact) → read_bundle h s ≡ gives facts → bundle_of facts ≡ s
+  pub read_again : (h : Head) (facts : List Fact) → read_bundle h s ≡ Ok facts → bundle_of facts ≡ s
   unfolding read_bundle
   read_again h facts e = read_whole h (check_bundle h s) refl facts e

@@ -10,22 +10,23 @@ use Rattle.site.specs.Lists.{keep}
 use Rattle.site.proofs.Lists.{length_keep, count_within}
 use Rattle.site.proofs.Order.{below_trans}
 use Rattle.rule.specs.declared.head.Head.{Head}
-use Rattle.bundle.specs.Bundle.{Last, ascends}
-use Rattle.bundle.specs.Bundle.Last.{none, after}
+use Rattle.bundle.specs.Bundle.{ascends}
+use Rattle.std.specs.Prelude.{Option}
+use Rattle.std.specs.Prelude.{None, Some}
 use Rattle.bundle.specs.Lawful.{LawfulFrom, LawfulFacts}
 use Rattle.bundle.specs.Lawful.LawfulFrom.{done, next}
 
 -- a fact above one that is above the last is above the last
-ascends_through : (last : Last) (f g : Fact) → ascends last f ≡ true → below f g ≡ true → ascends last g ≡ true
-ascends_through none f g k l = refl
-ascends_through (after e) f g k l = below_trans e f g k l
+ascends_through : (last : Option Fact) (f g : Fact) → ascends last f ≡ true → below f g ≡ true → ascends last g ≡ true
+ascends_through None f g k l = refl
+ascends_through (Some e) f g k l = below_trans e f g k l
 
 module _ (h : Head) where
-  skipped : {last : Last} {fs : List Fact} (f : Fact) → ascends last f ≡ true → LawfulFrom h (after f) fs → LawfulFrom h last fs
+  skipped : {last : Option Fact} {fs : List Fact} (f : Fact) → ascends last f ≡ true → LawfulFrom h (Some f) fs → LawfulFrom h last fs
   skipped f up done = done
   skipped {last = last} f up (next {f = g} l higher rest) = next l (ascends_through last f g up higher) rest
 
-  some_lawful : {last : Last} {fs : List Fact} (p : Fact → Bool) → LawfulFrom h last fs → LawfulFrom h last (keep p fs)
+  some_lawful : {last : Option Fact} {fs : List Fact} (p : Fact → Bool) → LawfulFrom h last fs → LawfulFrom h last (keep p fs)
   unfolding keep
   some_lawful p done = done
   some_lawful {last = last} p (next {f = f} {fs = fs} l up rest) =

@@ -1,12 +1,12 @@
 // "rules, then bundle": both read, or the first refusal.
 ghost use Rattle.std.specs.Prelude.{◌≡◌};
-ghost use Rattle.bundle.specs.Opened.{opening, opened_told, opened_refusal};
+ghost use Rattle.bundle.specs.Opened.{opening};
 
-use crate::check::{BundleRead, check_bundle};
+use crate::check::check_bundle;
 use crate::facts::Facts;
-use number::Refusal;
+use number::Answer;
 use rule::Head;
-use rules::{RulesRead, check_rules};
+use rules::check_rules;
 
 // What accepted rules and an accepted bundle say of themselves.
 #[derive(Clone, Copy)]
@@ -15,32 +15,11 @@ pub struct Inputs {
     pub facts: Facts,
 }
 
-#[derive(Clone, Copy)]
-pub enum Opened {
-    Accepted(Inputs),
-    Refused(Refusal),
-}
-
-impl Opened {
-    // The refusal, where there is one.
-    pub fn refusal(self) -> Refusal
-        ensures { result ≡ opened_refusal self }
-    {
-        match self {
-            Opened::Accepted(_) => Refusal::NONE,
-            Opened::Refused(r) => r,
-        }
-    }
-}
-
-pub fn open_inputs(rules: &[u8], bundle: &[u8]) -> Opened
-    ensures { opened_told result ≡ opening rules.now bundle.now }
+#[tactic(auto, unfolding(crate::specs::Opened::opening))]
+pub fn open_inputs(rules: &[u8], bundle: &[u8]) -> Answer<Inputs>
+    ensures { result ≡ opening rules.now bundle.now }
 {
-    match check_rules(rules) {
-        RulesRead::Refused(r) => Opened::Refused(r),
-        RulesRead::Accepted(head) => match check_bundle(bundle, head) {
-            BundleRead::Refused(r) => Opened::Refused(r),
-            BundleRead::Accepted(facts) => Opened::Accepted(Inputs { head, facts }),
-        },
-    }
+    let head = check_rules(rules)?;
+    let facts = check_bundle(bundle, head)?;
+    Ok(Inputs { head, facts })
 }

@@ -1,82 +1,54 @@
 // Walking through a bundle's facts, each declared and above the one before it.
 ghost use Rattle.std.specs.Prelude.{◌≡◌};
-ghost use Rattle.site.specs.Told.{end_told};
-ghost use Rattle.bundle.specs.Bundle.{next_fact, facts_from, predicate_known};
-ghost use Rattle.bundle.specs.Told.{step_told, step_refusal, stand_of};
+ghost use Rattle.bundle.specs.Bundle.{ascends, next_fact, facts_from, predicate_known};
 
-use crate::before::Before;
-use crate::one::{FactRead, fact_at};
-use number::Refusal;
+use crate::one::fact_at;
+use number::{Answer, Fault, Refusal, Side, about};
 use rule::Head;
-use site::End;
+use site::Fact;
 
-// Where the walk is, and the fact before, if there is any.
+// Where the reading of facts stands: the fact before, if there is one, and the next byte.
 #[derive(Clone, Copy)]
-pub struct Walk {
+pub struct Stand {
+    pub last: Option<Fact>,
     pub at: usize,
-    pub before: Before,
 }
 
-// What one step of the walk finds: the walk after the fact, or the refusal.
-#[derive(Clone, Copy)]
-pub enum Step {
-    On(Walk),
-    Refused(Refusal),
-}
-
-impl Step {
-    // The refusal, where there is one.
-    pub fn refusal(self) -> Refusal
-        ensures { result ≡ step_refusal self }
-    {
-        match self {
-            Step::On(_) => Refusal::NONE,
-            Step::Refused(r) => r,
-        }
+// Is a fact above the one before it, if there is one?
+pub fn ascends(last: Option<Fact>, fact: Fact) -> bool
+    ensures { result ≡ ascends last fact }
+{
+    match last {
+        None => true,
+        Some(last) => last < fact,
     }
 }
 
-impl Walk {
-    // The fact at the walk's place is read, then judged by its order.
-    pub fn step(self, s: &[u8], head: Head) -> Step
-        ensures { step_told result ≡ next_fact (predicate_known head) s.now (stand_of self) }
-    {
-        let got = fact_at(s, head.concepts, head.roles, self.at);
-        let FactRead::Read(fact, next) = got else {
-            return Step::Refused(got.refusal());
-        };
-        let before = self.before;
-        if before.ascends(fact) {
-            return Step::On(Walk {
-                at: next,
-                before: Before::after(fact),
-            });
-        }
-        Step::Refused(Refusal {
-            number: Refusal::ORDER,
-            side: Refusal::BUNDLE,
-            place: self.at,
-            item: Refusal::NO_ITEM,
-        })
+// The fact at a place is read, then judged by its order.
+#[tactic(auto, unfolding(crate::specs::Bundle::next_fact))]
+fn next_fact(s: &[u8], head: Head, here: Stand) -> Answer<Stand>
+    ensures { result ≡ next_fact (predicate_known head) s.now here }
+{
+    let fact = fact_at(s, head.declared(), here.at)?;
+    if !ascends(here.last, fact.value) {
+        return Err(Refusal::new(Fault::Order, Side::Bundle, here.at));
     }
+    Ok(Stand {
+        last: Some(fact.value),
+        at: fact.next,
+    })
 }
 
 // So many facts from a place on: the place after them.
-pub fn walk_facts(s: &[u8], head: Head, count: u32, start: usize) -> End
-    ensures { end_told result ≡ facts_from (predicate_known head) s.now count start }
+pub fn walk_facts(s: &[u8], head: Head, count: u32, start: usize) -> Answer<usize>
+    ensures { result ≡ facts_from (predicate_known head) s.now count start }
 {
-    let mut walk = Walk {
+    let mut here = Stand {
+        last: None,
         at: start,
-        before: Before::none(),
     };
-    let mut left = count;
-    while 0 < left {
-        let got = walk.step(s, head);
-        let Step::On(next) = got else {
-            return End::Refused(got.refusal().of_item(count - left));
-        };
-        walk = next;
-        left -= 1;
+    for i in 0..count {
+        here = about(next_fact(s, head, here), i)?;
     }
-    End::At(walk.at)
+    Ok(here.at)
 }

@@ -6,7 +6,7 @@ use mathlib.Core.Logic.{◌↔◌}
 use mathlib.Core.List.{List, Memᴰ}
 use lib.Dec.{ltb}
 use Rattle.number.specs.Answer.{Answer, ◌then◌}
-use Rattle.number.specs.Answer.Answer.{gives}
+use Rattle.std.specs.Prelude.{Ok}
 use Rattle.site.specs.declared.fact.Fact.{Fact}
 use Rattle.site.specs.Kinds.{BasicRole, Node, Rule, Site, role_in, declared}
 use Rattle.site.specs.Kinds.BasicConcept.{named, some}
@@ -87,7 +87,7 @@ unfolding check_bundle read_bundle
 read_bare h bundle = refl
 
 -- two accepted rule files of the same rules
-module _ (rules rules' : List ℕ) (h h' : Head) (a : check_rules rules ≡ gives h) (a' : check_rules rules' ≡ gives h')
+module _ (rules rules' : List ℕ) (h h' : Head) (a : check_rules rules ≡ Ok h) (a' : check_rules rules' ≡ Ok h')
     (same : SameRules (site_of rules h) (site_of rules' h')) (bundle : List ℕ) where
   concepts_same : h.concepts ≡ h'.concepts
   unfolding site_of

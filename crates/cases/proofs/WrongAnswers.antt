@@ -8,9 +8,11 @@ use mathlib.Core.List.{List, [], ◌∷◌}
 use lib.ListN.{get_or}
 use lib.Dec.{eqb}
 use borrow.Author.Tests.{eqb-false}
+use Rattle.std.specs.Prelude.{Option, Some, None, Ok, Err}
 use Rattle.number.specs.Answer.{Answer, refusal, over}
-use Rattle.number.specs.Answer.Answer.{gives, refuses}
 use Rattle.number.specs.declared.refusal.Refusal.{Refusal}
+use Rattle.number.specs.declared.refusal.Fault.TheVariants.{NoFact}
+use Rattle.number.specs.declared.refusal.Side.TheVariants.{Call}
 use Rattle.number.specs.Number.{form_of, second, third, number_at}
 use Rattle.site.specs.declared.fact.Fact.{Fact}
 use Rattle.site.specs.Kinds.{Node, Rule, Site}
@@ -19,7 +21,7 @@ use Rattle.site.specs.Kinds.BasicConcept.{named, some}
 use Rattle.site.specs.Kinds.Node.{concept, role}
 use Rattle.site.specs.Kinds.Rule.{included, disjoint, role_included, role_disjoint}
 use Rattle.site.specs.Codes.{role_of, concept_of, concept_declared, predicate_declared}
-use Rattle.site.specs.Limits.{most_facts, no_partner}
+use Rattle.site.specs.Limits.{most_facts}
 use Rattle.site.specs.Lists.{up_to, any, count, first, each}
 use Rattle.site.specs.Items.{tested_at, at_most, items_from, end_at}
 use Rattle.rule.specs.OneRule.{head_of, code_declared, rule_at}
@@ -35,8 +37,9 @@ use Rattle.steps.specs.Tables.{roles_of, nodes_of, arrow, mates, find, rows_of, 
 use Rattle.clashes.specs.Types.{typ, itself, types_of}
 use Rattle.clashes.specs.Marks.{jar, split, meet, alone, contradict, clash, mark, partner, marks, partners, marked, counts, supports, support}
 use Rattle.clashes.specs.declared.answers.Judged.{Judged}
-use Rattle.clean.specs.Operations.{given, room_for_marks, marking, asking, reply_of, having, joining, Reply}
-use Rattle.clean.specs.Operations.Reply.{yes_by, none}
+use Rattle.clashes.specs.declared.answers.Judged.TheVariants.{Kept}
+use Rattle.clashes.specs.Judging.{judged}
+use Rattle.clean.specs.Operations.{given, room_for_marks, marking, asking, reply_of, having, joining}
 
 -- what is one of two things is not the other, if a number tells them apart
 ruled_out : {A : Type 0} (f : A → ℕ) {x right wrong : A} → x ≡ right → eqb (f right) (f wrong) ≡ false → x ≡ wrong → ⊥
@@ -44,20 +47,20 @@ ruled_out f {right = right} {wrong = wrong} is other e = eqb-false (f right) (f 
 
 -- the numbers that tell apart: a row's at a place, and 0 for no, or the number of the fact and 1 more
 abbrev row_at : ℕ → Answer (List ℕ) → ℕ
-row_at k (gives row) = get_or row k 3
-row_at k (refuses r) = 3
+row_at k (Ok row) = get_or row k 3
+row_at k (Err r) = 3
 
-abbrev replied : Reply → ℕ
-replied (yes_by n) = n + 1
-replied none = 0
+abbrev replied : Option ℕ → ℕ
+replied (Some n) = n + 1
+replied None = 0
 
-abbrev answered : Answer Reply → ℕ
-answered (gives r) = replied r
-answered (refuses r) = 0
+abbrev answered : Answer (Option ℕ) → ℕ
+answered (Ok r) = replied r
+answered (Err r) = 0
 
 abbrev refused_by : {A : Type 0} → Answer A → ℕ
-refused_by (gives a) = 0
-refused_by (refuses r) = 1
+refused_by (Ok a) = 0
+refused_by (Err r) = 1
 
 abbrev pub marks_of : List ℕ → List ℕ → Answer (List ℕ)
 marks_of rules bundle = over (λ m. m.marks) (marking rules bundle most_facts most_facts)
@@ -100,19 +103,19 @@ both_roles = 0x02 ∷ 0x40 ∷ 0x07 ∷ 0x08 ∷ 0x41 ∷ 0x07 ∷ 0x08 ∷ []
 
 -- ---- the right answers
 record Right : Type 0 where
-  functional_forward : marks_of one_to two_to ≡ gives (2 ∷ 2 ∷ [])
-  functional_inverse : marks_of one_from two_from ≡ gives (2 ∷ 2 ∷ [])
-  other_direction : marks_of one_to two_from ≡ gives (0 ∷ 0 ∷ [])
-  other_inverse : marks_of one_from two_to ≡ gives (0 ∷ 0 ∷ [])
-  lowest : having within both 1 7 ≡ gives (yes_by 0)
-  lowest_role : joining role_within both_roles 2 7 8 ≡ gives (yes_by 0)
-  not_kept : having without all 1 7 ≡ gives (yes_by 1)
-  last : asking within both 1 ≡ gives (record { mark = 0; partner = no_partner })
-  at_count : asking within both 2 ≡ refuses (refusal 10 2 0)
-  past_count : asking within both 3 ≡ refuses (refusal 10 2 0)
+  functional_forward : marks_of one_to two_to ≡ Ok (2 ∷ 2 ∷ [])
+  functional_inverse : marks_of one_from two_from ≡ Ok (2 ∷ 2 ∷ [])
+  other_direction : marks_of one_to two_from ≡ Ok (0 ∷ 0 ∷ [])
+  other_inverse : marks_of one_from two_to ≡ Ok (0 ∷ 0 ∷ [])
+  lowest : having within both 1 7 ≡ Ok (Some 0)
+  lowest_role : joining role_within both_roles 2 7 8 ≡ Ok (Some 0)
+  not_kept : having without all 1 7 ≡ Ok (Some 1)
+  last : asking within both 1 ≡ Ok Kept
+  at_count : asking within both 2 ≡ Err (refusal NoFact Call 0)
+  past_count : asking within both 3 ≡ Err (refusal NoFact Call 0)
 
 right : Right
-unfolding form_of second third number_at role_of concept_of concept_declared predicate_declared up_to any count first each tested_at at_most items_from end_at head_of code_declared rule_at next_rule rules_in next_unbroken after_rules check_rules site_of fact_at next_fact facts_in check_bundle read_bundle roles_of nodes_of arrow mates find rows_of looked through closure apart empty excludes functional_in excluded_rows follows_from follows_of types_of jar split meet alone contradict clash mark partner marks partners marked counts supports support given room_for_marks marking asking reply_of having joining
+unfolding form_of second third number_at role_of concept_of concept_declared predicate_declared up_to any count first each tested_at at_most items_from end_at head_of code_declared rule_at next_rule rules_in next_unbroken after_rules check_rules site_of fact_at next_fact facts_in check_bundle read_bundle roles_of nodes_of arrow mates find rows_of looked through closure apart empty excludes functional_in excluded_rows follows_from follows_of types_of jar split meet alone contradict clash mark partner marks partners marked counts supports support given room_for_marks marking judged asking reply_of having joining
 right =
     record {
       functional_forward = refl;
@@ -128,48 +131,48 @@ right =
     }
 
 -- a functional role joins 9 to two things: neither fact is kept
-pub functional_clash_not_missed : marks_of one_to two_to ≡ gives (0 ∷ 0 ∷ []) → ⊥
+pub functional_clash_not_missed : marks_of one_to two_to ≡ Ok (0 ∷ 0 ∷ []) → ⊥
 functional_clash_not_missed = ruled_out (row_at 0) right.functional_forward refl
 
 -- nor is the first of them
-pub functional_first_not_kept : marks_of one_to two_to ≡ gives (0 ∷ 2 ∷ []) → ⊥
+pub functional_first_not_kept : marks_of one_to two_to ≡ Ok (0 ∷ 2 ∷ []) → ⊥
 functional_first_not_kept = ruled_out (row_at 0) right.functional_forward refl
 
 -- two things are joined to 9 by a role whose inverse is functional
-pub inverse_clash_not_missed : marks_of one_from two_from ≡ gives (0 ∷ 0 ∷ []) → ⊥
+pub inverse_clash_not_missed : marks_of one_from two_from ≡ Ok (0 ∷ 0 ∷ []) → ⊥
 inverse_clash_not_missed = ruled_out (row_at 0) right.functional_inverse refl
 
 -- a functional role's inverse need not be functional, nor a role whose inverse is
-pub functional_not_turned : marks_of one_to two_from ≡ gives (2 ∷ 2 ∷ []) → ⊥
+pub functional_not_turned : marks_of one_to two_from ≡ Ok (2 ∷ 2 ∷ []) → ⊥
 functional_not_turned = ruled_out (row_at 0) right.other_direction refl
 
-pub inverse_not_turned : marks_of one_from two_to ≡ gives (2 ∷ 2 ∷ []) → ⊥
+pub inverse_not_turned : marks_of one_from two_to ≡ Ok (2 ∷ 2 ∷ []) → ⊥
 inverse_not_turned = ruled_out (row_at 0) right.other_inverse refl
 
 -- two kept facts support: the answer is by the lower, though the higher names the asked concept
-pub answer_not_by_higher : having within both 1 7 ≡ gives (yes_by 1) → ⊥
+pub answer_not_by_higher : having within both 1 7 ≡ Ok (Some 1) → ⊥
 answer_not_by_higher = ruled_out answered right.lowest refl
 
 -- the same of a role
-pub answer_not_by_higher_role : joining role_within both_roles 2 7 8 ≡ gives (yes_by 1) → ⊥
+pub answer_not_by_higher_role : joining role_within both_roles 2 7 8 ≡ Ok (Some 1) → ⊥
 answer_not_by_higher_role = ruled_out answered right.lowest_role refl
 
 -- the lowest fact that supports is disputed: the answer is by the kept one
-pub answer_not_by_disputed : having without all 1 7 ≡ gives (yes_by 0) → ⊥
+pub answer_not_by_disputed : having without all 1 7 ≡ Ok (Some 0) → ⊥
 answer_not_by_disputed = ruled_out answered right.not_kept refl
 
 -- nor is the answer no
-pub answer_not_lost : having without all 1 7 ≡ gives none → ⊥
+pub answer_not_lost : having without all 1 7 ≡ Ok None → ⊥
 answer_not_lost = ruled_out answered right.not_kept refl
 
 -- refusal 10: not for the last fact; for the count, and for one more
-pub last_fact_not_refused : (r : Refusal) → asking within both 1 ≡ refuses r → ⊥
+pub last_fact_not_refused : (r : Refusal) → asking within both 1 ≡ Err r → ⊥
 last_fact_not_refused r = ruled_out refused_by right.last refl
 
-pub count_not_judged : (j : Judged) → asking within both 2 ≡ gives j → ⊥
+pub count_not_judged : (j : Judged) → asking within both 2 ≡ Ok j → ⊥
 count_not_judged j = ruled_out refused_by right.at_count refl
 
-pub past_count_not_judged : (j : Judged) → asking within both 3 ≡ gives j → ⊥
+pub past_count_not_judged : (j : Judged) → asking within both 3 ≡ Ok j → ⊥
 past_count_not_judged j = ruled_out refused_by right.past_count refl
 
 -- ---- the steps: for each, a site and what is answered there, which is another without the step; and what the step gives
@@ -180,7 +183,7 @@ abbrev fact : ℕ → ℕ → ℕ → Fact
 fact predicate subject object = record { predicate = predicate; subject = subject; object = object }
 
 -- "B of a", "q from a to b", and the marks
-abbrev pub has_type : Site → List Fact → Node → ℕ → ℕ → Reply
+abbrev pub has_type : Site → List Fact → Node → ℕ → ℕ → Option ℕ
 has_type s facts node a b = reply_of (follows_of s) facts (typ node a b)
 
 abbrev pub marks_in : Site → List Fact → List ℕ
@@ -211,10 +214,10 @@ abbrev pub empty_role : Site
 empty_role = site 1 1 (included (named 0) (some (inverse 0)) ∷ disjoint (some (forward 0)) (some (forward 0)) ∷ [])
 
 record RightSteps : Type 0 where
-  by_1 : has_type no_rule (fact 0 9 0 ∷ []) (concept (named 0)) 9 9 ≡ yes_by 0
-  by_2 : has_type two_inclusions (fact 0 7 0 ∷ []) (concept (named 2)) 7 7 ≡ yes_by 0
-  by_3 : has_type role_inclusion (fact 64 7 8 ∷ []) (role (inverse 1)) 8 7 ≡ yes_by 0
-  by_4 : has_type role_inclusion (fact 64 7 8 ∷ []) (concept (some (forward 1))) 7 7 ≡ yes_by 0
+  by_1 : has_type no_rule (fact 0 9 0 ∷ []) (concept (named 0)) 9 9 ≡ Some 0
+  by_2 : has_type two_inclusions (fact 0 7 0 ∷ []) (concept (named 2)) 7 7 ≡ Some 0
+  by_3 : has_type role_inclusion (fact 64 7 8 ∷ []) (role (inverse 1)) 8 7 ≡ Some 0
+  by_4 : has_type role_inclusion (fact 64 7 8 ∷ []) (concept (some (forward 1))) 7 7 ≡ Some 0
   by_5 : marks_in one_disjoint (fact 0 7 0 ∷ fact 1 7 0 ∷ []) ≡ 2 ∷ 2 ∷ []
   by_6 : marks_in below_disjoint (fact 0 7 0 ∷ fact 2 7 0 ∷ []) ≡ 2 ∷ 2 ∷ []
   by_6_roles : marks_in below_role_disjoint (fact 64 7 8 ∷ fact 66 7 8 ∷ []) ≡ 2 ∷ 2 ∷ []
@@ -237,14 +240,14 @@ right_steps =
     }
 
 -- step 1: Camera(9) answers whether 9 is a Camera, without any rule
-pub without_step_1 : has_type no_rule (fact 0 9 0 ∷ []) (concept (named 0)) 9 9 ≡ none → ⊥
+pub without_step_1 : has_type no_rule (fact 0 9 0 ∷ []) (concept (named 0)) 9 9 ≡ None → ⊥
 without_step_1 = ruled_out replied right_steps.by_1 refl
 
 pub given_by_step_1 : Included no_rule (concept (named 0)) (concept (named 0))
 given_by_step_1 = step_1 refl
 
 -- step 2: concept 0 in 1, 1 in 2
-pub without_step_2 : has_type two_inclusions (fact 0 7 0 ∷ []) (concept (named 2)) 7 7 ≡ none → ⊥
+pub without_step_2 : has_type two_inclusions (fact 0 7 0 ∷ []) (concept (named 2)) 7 7 ≡ None → ⊥
 without_step_2 = ruled_out replied right_steps.by_2 refl
 
 pub given_by_step_2 : Included two_inclusions (concept (named 0)) (concept (named 2))
@@ -252,14 +255,14 @@ given_by_step_2 =
     step_2 (included-by-rule (Memᴰ.head refl) (kind_0 {b = named 0} {c = named 1})) (included-by-rule (Memᴰ.tail (Memᴰ.head refl)) kind_0)
 
 -- step 3: role 0 in role 1, asked from the object to the subject
-pub without_step_3 : has_type role_inclusion (fact 64 7 8 ∷ []) (role (inverse 1)) 8 7 ≡ none → ⊥
+pub without_step_3 : has_type role_inclusion (fact 64 7 8 ∷ []) (role (inverse 1)) 8 7 ≡ None → ⊥
 without_step_3 = ruled_out replied right_steps.by_3 refl
 
 pub given_by_step_3 : Included role_inclusion (role (inverse 0)) (role (inverse 1))
 given_by_step_3 = step_3 {p = forward 0} {q = forward 1} (included-by-rule (Memᴰ.head refl) kind_2)
 
 -- step 4: and asked whether 7 has a partner by role 1
-pub without_step_4 : has_type role_inclusion (fact 64 7 8 ∷ []) (concept (some (forward 1))) 7 7 ≡ none → ⊥
+pub without_step_4 : has_type role_inclusion (fact 64 7 8 ∷ []) (concept (some (forward 1))) 7 7 ≡ None → ⊥
 without_step_4 = ruled_out replied right_steps.by_4 refl
 
 pub given_by_step_4 : Included role_inclusion (concept (some (forward 0))) (concept (some (forward 1)))

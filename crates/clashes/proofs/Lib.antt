@@ -1,10 +1,9 @@
 pub mod OfAgreement
 pub mod OfAnswers
 pub mod OfClash
-pub mod OfCounts
+pub mod OfJudged
 pub mod OfKept
 pub mod OfMarks
 pub mod OfPartners
 pub mod OfTests
-pub mod OfTypeCodes
 pub mod OfTypes

@@ -1,41 +1,23 @@
 -- What the code's tests on two facts say of jarring, splitting, contradicting and being alone.
-use Prim.Native.Nat.{ℕ, ◌+◌, ◌-◌, ◌*◌, ◌/◌, ◌%◌, ◌^◌, ◌≤◌, ◌<◌}
+use Prim.Native.Nat.{ℕ, ◌+◌, ◌-◌, ◌*◌, ◌≤◌}
 use mathlib.Core.Path.{◌≡◌, refl, sym, ap, ◌∙◌}
-use mathlib.Core.Bool.{Bool, true, false, cond, ◌&&◌, ◌||◌, not, or-false, and-false, and-true}
+use mathlib.Core.Bool.{Bool, true, false, cond, ◌&&◌, ◌||◌, not, or-false, and-false}
 use mathlib.Core.List.{List, [], ◌∷◌, map}
 use mathlib.Core.Logic.{◌⊎◌, inl, inr}
 use lib.Dec.{eqb}
 use native.Mathlib.Decide.{ℕ_discrete}
 use native.Mathlib.Omega.{arith}
-use borrow.Author.Tests.{lt-ltb, le-ltb, eq-eqb, ne_eqb, ltb-false, eqb-true, not-true}
-use borrow.Author.Rules.{rules}
+use borrow.Author.Tests.{eq-eqb, ne_eqb, ltb-false, eqb-true, not-true}
 use Rattle.site.specs.declared.fact.Fact.{Fact}
-use Rattle.site.specs.declared.nodes.Role.{Role}
 use Rattle.site.specs.Kinds.{Node, of_concept, same_node}
-use Rattle.site.specs.Kinds.BasicRole.{forward, inverse}
-use Rattle.site.specs.Codes.{role_code}
-use Rattle.site.specs.Told.{Code}
 use Rattle.site.proofs.Lists.{and_left, and_right, is_false, true_not_false}
 use Rattle.site.specs.Lists.{any}
 use Rattle.steps.specs.Tables.{Follows}
-use Rattle.tables.specs.Bits.{has as has_bit, bit_of}
 use Rattle.clashes.specs.Types.{Typ as SaidTyp, types_of, itself, concept_types, role_types}
 use Rattle.clashes.specs.Marks.{same_place, functional_node, jar, split, meet, alone, contradict}
-use Rattle.clashes.specs.Coded.{coded_types, has_role, bits_follow, related_at, split_coded, far}
-use Rattle.clashes.specs.declared.types.Typ.{Typ}
+use Rattle.clashes.specs.Coded.{coded_types, has_role, bits_follow, relates_coded, split_coded, far}
 use Rattle.clashes.proofs.OfTypes.{TypeOf, meet_some}
 use Rattle.clashes.proofs.OfTypes.TypeOf.{is_a, has, had, joins, joined}
-
--- two types
-module _ (excluded : List ℕ) (x y : Typ) where
-  pub jar_from : (x.from ≡ y.from → ⊥) → false ≡ related_at excluded x y
-  jar_from h = rw (ne_eqb x.from y.from h)
-
-  pub jar_to : x.from ≡ y.from → (x.to ≡ y.to → ⊥) → false ≡ related_at excluded x y
-  jar_to e h = rw (ne_eqb x.to y.to h, and-false)
-
-  pub jar_both : x.from ≡ y.from → x.to ≡ y.to → (r : Bool) → r ≡ has_bit excluded x.node y.node → r ≡ related_at excluded x y
-  jar_both e f r is = rw (eq-eqb x.from y.from e, eq-eqb x.to y.to f) is
 
 -- a test of what is coded
 pub any_map : {A B : Type 0} (p : B → Bool) (h : A → B) (l : List A) → any p (map h l) ≡ any (λ x. p (h x)) l
@@ -44,83 +26,9 @@ any_map p h [] = refl
 any_map p h (x ∷ xs) = ap (λ (b : Bool). p (h x) || b) (any_map p h xs)
 
 module _ (included excluded : List ℕ) (functional : ℕ) (f g : Fact) where
-  pub jar_meet : any (λ x. any (related_at excluded x) (coded_types g)) (coded_types f) ≡ meet itself (jar (bits_follow included excluded functional)) f g
+  pub jar_meet : any (relates_coded excluded g) (coded_types f) ≡ meet itself (jar (bits_follow included excluded functional)) f g
   unfolding meet jar coded_types
   jar_meet = simp any_map
-
-pub jar_alone : (excluded : List ℕ) (f : Fact) (r : Bool) → r ≡ any (λ x. any (related_at excluded x) (coded_types f)) (coded_types f)
-    → r ≡ alone itself (bits_follow [] excluded 0) f
-unfolding alone
-jar_alone excluded f r e = e ∙ jar_meet [] excluded 0 f f
-
--- functional roles
-pub role_high : (w q : ℕ) → 64 ≤ q → false ≡ has_role w q
-unfolding has_role
-role_high w q h = rw (le-ltb q 64 h)
-
-pub role_low : (w q : ℕ) → q < 64 → eqb (w / 2 ^ q % 2) 1 ≡ has_role w q
-unfolding has_role bit_of
-role_low w q h = rw (lt-ltb q 64 h)
-
-module _ (functional code a c b d : ℕ) where
-  pub split_from : (a ≡ c → ⊥) → false ≡ (has_role functional code && eqb a c && not (eqb b d))
-  split_from h = rw (ne_eqb a c h, and-false)
-
-  pub split_to : a ≡ c → b ≡ d → false ≡ (has_role functional code && eqb a c && not (eqb b d))
-  split_to e k = rw (eq-eqb b d k, and-false)
-
-  pub split_both : a ≡ c → (b ≡ d → ⊥) → (r : Bool) → r ≡ has_role functional code → r ≡ (has_role functional code && eqb a c && not (eqb b d))
-  split_both e k r is = rw (eq-eqb a c e, ne_eqb b d k, and-true (has_role functional code && true), and-true (has_role functional code)) is
-
-module _ (functional : ℕ) (f g : Fact) where
-  module _ (b : Bool) (is_b : b ≡ of_concept f) where
-    pub split_1 : b ≡ true → false ≡ split_coded functional f g
-    unfolding split_coded
-    split_1 t = rw (← is_b, t)
-
-    module _ (f-role : b ≡ false) (c : Bool) (is_c : c ≡ of_concept g) where
-      pub split_2 : c ≡ true → false ≡ split_coded functional f g
-      unfolding split_coded
-      split_2 t = rw (← is_c, t, and-false)
-
-      module _ (g-role : c ≡ false) where
-        pub split_3 : (f.predicate ≡ g.predicate → ⊥) → false ≡ split_coded functional f g
-        unfolding split_coded
-        split_3 h = rw (ne_eqb f.predicate g.predicate h, and-false)
-
-        module _ (same : f.predicate ≡ g.predicate) (k : Role) (is-k : k ≡ record { number = f.predicate - 64 }) (q : ℕ) (is-q : Code (role_code (forward k.number)) q) (r : Bool)
-            (is-r : r ≡ (has_role functional q && eqb f.subject g.subject && not (eqb f.object g.object))) where
-          forward_is : q ≡ 2 * (f.predicate - 64)
-          forward_is = is-q.is ∙ ap (λ (j : Role). 2 * j.number) is-k
-
-          pub split_4 : r ≡ true → true ≡ split_coded functional f g
-          unfolding split_coded
-          split_4 t = rw (← is_b, f-role, ← is_c, g-role, eq-eqb f.predicate g.predicate same, ← forward_is, ← is-r, t)
-
-          pub split_5 : r ≡ false → (q₂ : ℕ) → Code (role_code (inverse k.number)) q₂ → (r₂ : Bool)
-              → r₂ ≡ (has_role functional q₂ && eqb f.object g.object && not (eqb f.subject g.subject)) → r₂ ≡ split_coded functional f g
-          unfolding split_coded
-          split_5 no-r q₂ is-q₂ r₂ e =
-              let inverse-is : q₂ ≡ q + 1 = is-q₂.is ∙ ap (λ (n : ℕ). n + 1) (sym is-q.is) in
-              rw (← is_b, f-role, ← is_c, g-role, eq-eqb f.predicate g.predicate same, ← forward_is, ← inverse-is, ← is-r, no-r) e
-
--- far facts
-module _ (f g : Fact) where
-  pub far_1 : f.subject ≡ g.subject → false ≡ far f g
-  unfolding far
-  far_1 e = rw (eq-eqb f.subject g.subject e)
-
-  pub far_2 : f.subject ≡ g.object → false ≡ far f g
-  unfolding far
-  far_2 e = rw (eq-eqb f.subject g.object e, and-false)
-
-  pub far_3 : f.object ≡ g.subject → false ≡ far f g
-  unfolding far
-  far_3 e = rw (eq-eqb f.object g.subject e, and-false)
-
-  pub far_4 : (f.subject ≡ g.subject → ⊥) → (f.subject ≡ g.object → ⊥) → (f.object ≡ g.subject → ⊥) → not (eqb f.object g.object) ≡ far f g
-  unfolding far
-  far_4 h₁ h₂ h₃ = rw (ne_eqb f.subject g.subject h₁, ne_eqb f.subject g.object h₂, ne_eqb f.object g.subject h₃)
 
 -- a type starts at one of the fact's two things
 starts : {f : Fact} {x : Node} {a b : ℕ} → TypeOf itself f x a b → (a ≡ f.subject) ⊎ (a ≡ f.object)
@@ -209,23 +117,23 @@ module _ (included excluded : List ℕ) (functional : ℕ) where
   split_meet f g =
       sym (split_types f g (of_concept f) (of_concept g) (λ e. ltb-false f.predicate 64 e) (λ e. ltb-false g.predicate 64 e))
 
--- the ways out of `do_contradict`
+-- what the code tests of two facts
 module _ (excluded : List ℕ) (functional : ℕ) (f g : Fact) where
-  pub contradict_far : (b : Bool) → b ≡ far f g → b ≡ true → false ≡ contradict itself (bits_follow [] excluded functional) f g
+  abbrev jarring : Bool
+  jarring = any (relates_coded excluded g) (coded_types f)
+
+  by_far : (apart : Bool) → far f g ≡ apart
+      → contradict itself (bits_follow [] excluded functional) f g ≡ (not apart && (jarring || split_coded functional f g))
   unfolding contradict
-  contradict_far b is e =
+  by_far true e =
       let t = bits_follow [] excluded functional in
-      let is-far : far f g ≡ true = sym is ∙ e in
-      rw (far_meet f g is-far (jar t) (jar_starts t), far_meet f g is-far (split t) (split_starts t))
+      rw (far_meet f g e (jar t) (jar_starts t), far_meet f g e (split t) (split_starts t))
+  by_far false e = rw (← (jar_meet [] excluded functional f g), ← (split_meet [] excluded functional f g))
 
-  module _ (r : Bool) (is : r ≡ any (λ x. any (related_at excluded x) (coded_types g)) (coded_types f)) where
-    pub contradict_jar : r ≡ true → true ≡ contradict itself (bits_follow [] excluded functional) f g
-    unfolding contradict
-    contradict_jar e = rw (← (jar_meet [] excluded functional f g), ← is, e)
+  pub contradict_is : contradict itself (bits_follow [] excluded functional) f g ≡ (not (far f g) && (jarring || split_coded functional f g))
+  contradict_is = by_far (far f g) refl
 
-    pub contradict_split : r ≡ false → (q : Bool) → q ≡ split_coded functional f g → q ≡ contradict itself (bits_follow [] excluded functional) f g
-    unfolding contradict
-    contradict_split e q k = rw (← (jar_meet [] excluded functional f g), ← is, e, ← (split_meet [] excluded functional f g)) k
-
-pub ruleset clashing =
-    (jar_from, jar_to, jar_both, jar_alone, role_high, role_low, split_from, split_to, split_both, split_1, split_2, split_3, split_4, split_5, far_1, far_2, far_3, far_4, contradict_far, contradict_jar, contradict_split, rules)
+pub alone_is : (excluded : List ℕ) (functional : ℕ) (f : Fact)
+    → alone itself (bits_follow [] excluded functional) f ≡ any (relates_coded excluded f) (coded_types f)
+unfolding alone
+alone_is excluded functional f = sym (jar_meet [] excluded functional f f)

@@ -37,6 +37,10 @@ bits_follow included excluded functional =
 abbrev pub related_at : List ℕ → Typ → Typ → Bool
 related_at table x y = eqb x.from y.from && eqb x.to y.to && has table x.node y.node
 
+-- a type that a table relates to some type of a fact
+abbrev pub relates_coded : List ℕ → Fact → Typ → Bool
+relates_coded table g x = any (related_at table x) (coded_types g)
+
 -- two facts of one role that a functional direction of it forbids together
 unfoldable pub split_coded : ℕ → Fact → Fact → Bool
 split_coded functional f g =

@@ -16,11 +16,6 @@ no_counts = record { facts = 0; kept = 0; alone = 0; disputed = 0 }
 unfoldable pub one_if : ℕ → ℕ → ℕ
 one_if mark wanted = cond (eqb mark wanted) 1 0
 
--- the same as a number that is at most 1
-pub record OneIf (mark wanted r : ℕ) : Type 0 where
-  pub is : r ≡ one_if mark wanted
-  pub small : r ≤ 1
-
 -- one fact more, of a mark
 abbrev pub tallied : Counts → ℕ → Counts
 tallied c mark =

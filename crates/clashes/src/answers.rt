@@ -1,9 +1,55 @@
 // What the operations answer, by value.
 ghost use Rattle.std.specs.Prelude.{◌≡◌};
-ghost use Rattle.clashes.specs.Tally.{no_counts, tallied, Small, OneIf};
+ghost use Rattle.clashes.specs.Tally.{tallied, Small};
+ghost use Rattle.clashes.specs.Judging.{mark_of, partner_of, judged_so};
 
-// "Counts: of facts, and of each mark"
-#[derive(Clone, Copy)]
+use site::Fact;
+
+// "Asking about one fact number gives its mark and partner": a disputed fact's is the lowest-numbered fact it clashes with.
+#[derive(Clone, Copy, PartialEq, Eq)]
+pub enum Judged {
+    Kept,
+    Alone,
+    Disputed(u32),
+}
+
+impl Judged {
+    // What a mark and a partner say, as rows of them hold them.
+    pub fn new(mark: u32, partner: u32) -> Self
+        ensures { result ≡ judged_so mark partner }
+    {
+        match mark {
+            0 => Judged::Kept,
+            1 => Judged::Alone,
+            _ => Judged::Disputed(partner),
+        }
+    }
+
+    // "0 kept, 1 alone, 2 disputed"
+    pub fn mark(self) -> u32
+        ensures { result ≡ mark_of self }
+    {
+        match self {
+            Judged::Kept => 0,
+            Judged::Alone => 1,
+            Judged::Disputed(_) => 2,
+        }
+    }
+
+    // The partner, "or 65,535 for marks 0 and 1".
+    pub fn partner(self) -> u32
+        ensures { result ≡ partner_of self }
+    {
+        match self {
+            Judged::Kept => Fact::NO_PARTNER,
+            Judged::Alone => Fact::NO_PARTNER,
+            Judged::Disputed(partner) => partner,
+        }
+    }
+}
+
+// "Counts: of facts, and of each mark"; the default is that of no facts.
+#[derive(Clone, Copy, Default)]
 pub struct Counts {
     pub facts: u32,
     pub kept: u32,
@@ -12,52 +58,19 @@ pub struct Counts {
 }
 
 impl Counts {
-    pub fn none() -> Counts
-        ensures { result ≡ no_counts }
-    {
-        Counts {
-            facts: 0,
-            kept: 0,
-            alone: 0,
-            disputed: 0,
-        }
-    }
-
-    // The counts with one fact more, of this mark.
-    pub fn with(self, mark: u32) -> Counts
+    // The counts with one fact more.
+    #[tactic(auto, unfolding(crate::specs::Tally::one_if))]
+    pub fn with(self, judged: Judged) -> Counts
         requires { Small self }
-        ensures { result ≡ tallied self mark }
+        ensures { result ≡ tallied self (mark_of judged) }
     {
-        Counts {
-            facts: self.facts + 1,
-            kept: self.kept + one_if(mark, Judged::KEPT),
-            alone: self.alone + one_if(mark, Judged::ALONE),
-            disputed: self.disputed + one_if(mark, Judged::DISPUTED),
+        let mut counts = self;
+        counts.facts += 1;
+        match judged {
+            Judged::Kept => counts.kept += 1,
+            Judged::Alone => counts.alone += 1,
+            Judged::Disputed(_) => counts.disputed += 1,
         }
+        counts
     }
-}
-
-fn one_if(mark: u32, wanted: u32) -> u32
-    ensures { OneIf mark wanted result }
-{
-    if mark == wanted {
-        return 1;
-    }
-    0
-}
-
-// "Asking about one fact number gives its mark and partner."
-#[derive(Clone, Copy)]
-pub struct Judged {
-    pub mark: u32,
-    pub partner: u32,
-}
-
-impl Judged {
-    // The marks: "0 kept, 1 alone, 2 disputed".
-    pub const KEPT: u32 = 0;
-
-    pub const ALONE: u32 = 1;
-
-    pub const DISPUTED: u32 = 2;
 }

@@ -1,150 +1,116 @@
 // Which facts are alone, and which two clash, by the tables.
-ghost use Rattle.std.specs.Prelude.{◌≡◌, [], ◌&&◌, not, eqb};
+ghost use Rattle.std.specs.Prelude.{◌≡◌, ◌&&◌, not, eqb};
 ghost use Rattle.site.specs.Lists.{any};
+ghost use Rattle.site.specs.Codes.{role_code};
+ghost use Rattle.site.specs.Told.{basic_role_told};
 ghost use Rattle.clashes.specs.Types.{itself};
-ghost use Rattle.clashes.specs.Marks.{alone, contradict, clash};
-ghost use Rattle.clashes.specs.Coded.{coded_types, related_at, has_role, split_coded, far, bits_follow};
+ghost use Rattle.clashes.specs.Marks.{alone, contradict};
+ghost use Rattle.clashes.specs.Coded.{coded_types, related_at, relates_coded, has_role, split_coded, far, supports_coded};
+ghost use Rattle.clashes.specs.Told.{clashes_told};
 
-use crate::types::{Typ, back_partner_type, back_role_type, concept_type, partner_type, role_type};
+use crate::types::{Typ, Types};
 use site::{BasicRole, Fact};
-use tables::{Table, get};
+use tables::Table;
 
 // Two types at one place that a table relates.
-pub fn related(table: &Table, x: Typ, y: Typ) -> bool
+fn related(table: &Table, x: Typ, y: Typ) -> bool
     ensures { result ≡ related_at table.now x y }
 {
-    if x.from != y.from {
-        return false;
-    }
-    if x.to != y.to {
-        return false;
-    }
-    get(table, x.node, y.node)
+    x.from == y.from && x.to == y.to && table.get(x.node, y.node)
 }
 
-// A type that jars with some type of a fact.
-fn jar_with(excluded: &Table, x: Typ, g: Fact) -> bool
-    ensures { result ≡ any (related_at excluded.now x) (coded_types g) }
+// A type that a table relates to some type of a fact.
+fn relates(table: &Table, x: Typ, g: Fact) -> bool
+    ensures { result ≡ relates_coded table.now g x }
 {
-    if g.of_concept() {
-        return related(excluded, x, concept_type(g));
-    }
-    if related(excluded, x, partner_type(g)) {
-        return true;
-    }
-    if related(excluded, x, back_partner_type(g)) {
-        return true;
-    }
-    if related(excluded, x, role_type(g)) {
-        return true;
-    }
-    related(excluded, x, back_role_type(g))
+    Types::of(g)
+        .as_slice()
+        .iter()
+        .any(|y| related(table, x, *y))
 }
 
-// Some type of one fact that jars with some type of another.
-fn jar_facts(excluded: &Table, f: Fact, g: Fact) -> bool
-    ensures { result ≡ any (λ x. any (related_at excluded.now x) (coded_types g)) (coded_types f) }
+// "one of whose types, at a or at the pair, is included in the asked code"
+pub fn supports(included: &Table, asked: Typ, f: Fact) -> bool
+    ensures { result ≡ supports_coded included.now asked f }
 {
-    if f.of_concept() {
-        return jar_with(excluded, concept_type(f), g);
-    }
-    if jar_with(excluded, partner_type(f), g) {
-        return true;
-    }
-    if jar_with(excluded, back_partner_type(f), g) {
-        return true;
-    }
-    if jar_with(excluded, role_type(f), g) {
-        return true;
-    }
-    jar_with(excluded, back_role_type(f), g)
-}
-
-// "Alone: two types of the fact (..) exclude each other." What is included and functional has no part in it.
-pub fn is_alone(excluded: &Table, f: Fact) -> bool
-    ensures { result ≡ alone itself (bits_follow [] excluded.now 0) f }
-{
-    jar_facts(excluded, f, f)
-}
-
-// Is a basic role, by its code, functional?
-fn is_functional(functional: u64, code: usize) -> bool
-    ensures { result ≡ has_role functional code }
-{
-    if code >= BasicRole::COUNT as usize {
-        return false;
-    }
-    (functional >> code) % 2 == 1
-}
-
-// One thing that a functional direction would join to two.
-fn splits(functional: u64, code: usize, a: u32, c: u32, b: u32, d: u32) -> bool
-    ensures { result ≡ (has_role functional code && eqb a c && not (eqb b d)) }
-{
-    if a != c {
-        return false;
-    }
-    if b == d {
-        return false;
-    }
-    is_functional(functional, code)
-}
-
-// "a functional q joins one thing to two different things by them"
-fn split_facts(functional: u64, f: Fact, g: Fact) -> bool
-    ensures { result ≡ split_coded functional f g }
-{
-    if f.of_concept() {
-        return false;
-    }
-    if g.of_concept() {
-        return false;
-    }
-    if f.predicate != g.predicate {
-        return false;
-    }
-    let role = f.role();
-    let forward = role.forward();
-    if splits(
-        functional, forward, f.subject, g.subject, f.object, g.object,
-    ) {
-        return true;
-    }
-    splits(
-        functional,
-        role.inverse(),
-        f.object,
-        g.object,
-        f.subject,
-        g.subject,
-    )
+    Types::of(f)
+        .as_slice()
+        .iter()
+        .any(|x| related(included, *x, asked))
 }
 
 // Facts with no thing in common.
+#[tactic(auto, unfolding(crate::specs::Coded::far))]
 fn are_far(f: Fact, g: Fact) -> bool
     ensures { result ≡ far f g }
 {
-    if f.subject == g.subject {
-        return false;
-    }
-    if f.subject == g.object {
-        return false;
-    }
-    if f.object == g.subject {
-        return false;
-    }
-    f.object != g.object
+    f.subject != g.subject && f.subject != g.object && f.object != g.subject && f.object != g.object
 }
 
-// Two facts that contradict each other, by their types or by a functional role.
-pub fn do_contradict(excluded: &Table, functional: u64, f: Fact, g: Fact) -> bool
-    ensures { result ≡ contradict itself (bits_follow [] excluded.now functional) f g }
-{
-    if are_far(f, g) {
-        return false;
+// What facts clash by: the table of what is excluded, and the bits of the functional basic roles.
+#[derive(Clone, Copy)]
+pub struct Clashes<'a> {
+    pub excluded: &'a Table,
+    pub functional: u64,
+}
+
+impl Clashes<'_> {
+    // Is a basic role functional?
+    #[tactic(auto, unfolding(crate::specs::Coded::has_role, tables::specs::Bits::bit_of))]
+    fn is_functional(&self, q: BasicRole) -> bool
+        ensures { result ≡ has_role self.now.functional (role_code (basic_role_told q)) }
+    {
+        let code = q.code();
+        code < BasicRole::COUNT as usize && (self.functional >> code) % 2 == 1
     }
-    if jar_facts(excluded, f, g) {
-        return true;
+
+    // Two types of two facts, or of one, that exclude each other.
+    fn jar(&self, f: Fact, g: Fact) -> bool
+        ensures { result ≡ any (relates_coded self.now.excluded.now g) (coded_types f) }
+    {
+        Types::of(f)
+            .as_slice()
+            .iter()
+            .any(|x| relates(self.excluded, *x, g))
     }
-    split_facts(functional, f, g)
+
+    // "a functional q joins one thing to two different things by them"
+    #[tactic(auto, unfolding(crate::specs::Coded::split_coded))]
+    fn split(&self, f: Fact, g: Fact) -> bool
+        ensures { result ≡ split_coded self.now.functional f g }
+    {
+        let role = f.role();
+        !f.of_concept()
+            && !g.of_concept()
+            && f.predicate == g.predicate
+            && (self.is_functional(BasicRole::Forward(role))
+                && f.subject == g.subject
+                && f.object != g.object
+                || self.is_functional(BasicRole::Inverse(role))
+                    && f.object == g.object
+                    && f.subject != g.subject)
+    }
+
+    // "Alone: two types of the fact (..) exclude each other." What is included and functional has no part in it.
+    #[tactic(auto, using(crate::proofs::OfTests::alone_is))]
+    pub fn is_alone(&self, f: Fact) -> bool
+        ensures { result ≡ alone itself (clashes_told self.now) f }
+    {
+        self.jar(f, f)
+    }
+
+    // Two facts that contradict each other, by their types or by a functional role.
+    #[tactic(auto, using(crate::proofs::OfTests::contradict_is))]
+    pub fn contradict(&self, f: Fact, g: Fact) -> bool
+        ensures { result ≡ contradict itself (clashes_told self.now) f g }
+    {
+        !are_far(f, g) && (self.jar(f, g) || self.split(f, g))
+    }
+
+    // A fact that is not alone and contradicts another.
+    pub fn disputes(&self, f: Fact, g: Fact) -> bool
+        ensures { result ≡ (contradict itself (clashes_told self.now) f g && not (alone itself (clashes_told self.now) g)) }
+    {
+        self.contradict(f, g) && !self.is_alone(g)
+    }
 }

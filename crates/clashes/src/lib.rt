@@ -6,5 +6,5 @@ mod clash;
 mod types;
 
 pub use answers::{Counts, Judged};
-pub use clash::{do_contradict, is_alone, related};
-pub use types::{Typ, back_partner_type, back_role_type, concept_type, partner_type, role_type};
+pub use clash::{Clashes, supports};
+pub use types::Typ;

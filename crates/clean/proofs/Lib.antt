@@ -1,6 +1,5 @@
-pub mod OfAsking
-pub mod OfJudging
-pub mod OfKeeping
-pub mod OfRows
-pub mod OfSearch
 pub mod OfWalks
+pub mod OfSearch
+pub mod OfJudging
+pub mod OfRows
+pub mod OfKeeping

@@ -1,2 +1,3 @@
+pub mod Cleaning
 pub mod Keeping
 pub mod Operations

@@ -11,7 +11,7 @@ use lib.Seq.{length-take-le, take-take, take_all}
 use native.Mathlib.Omega.{arith}
 use borrow.Author.Tests.{leb-true, leb-false}
 use Rattle.number.specs.Answer.{Answer}
-use Rattle.number.specs.Answer.Answer.{gives, refuses}
+use Rattle.std.specs.Prelude.{Ok, Err}
 use Rattle.number.proofs.Laws.{Bytes}
 use Rattle.site.specs.Limits.{most_roles}
 use Rattle.site.specs.declared.fact.Fact.{Fact}
@@ -36,8 +36,8 @@ module _ (room : ℕ) (enough : longest < room) where
 
       by_answer : (a : Answer Facts) → check_bundle h s ≡ a → read_bundle h (take room s) ≡ read_bundle h s
       unfolding read_bundle
-      by_answer (gives b) e = absurd (omega (arith, accepted_short h few s b bytes e))
-      by_answer (refuses r) e = rw (same_check, e)
+      by_answer (Ok b) e = absurd (omega (arith, accepted_short h few s b bytes e))
+      by_answer (Err r) e = rw (same_check, e)
 
       pub long_bundle : read_bundle h (take room s) ≡ read_bundle h s
       long_bundle = by_answer (check_bundle h s) refl
@@ -60,15 +60,15 @@ module _ (room : ℕ) (enough : longest < room) where
   -- ---- both, and whatever is asked of them
   module _ {A : Type 0} (rules bundle : List ℕ) (bytes-r : Bytes rules) (bytes-b : Bytes bundle) (k : Head → Follows → List Fact → Answer A) where
     -- accepted rules that fit
-    same_rest : (h : Head) → check_rules rules ≡ gives h → given rules (take room bundle) k ≡ given rules bundle k
+    same_rest : (h : Head) → check_rules rules ≡ Ok h → given rules (take room bundle) k ≡ given rules bundle k
     unfolding given site_of
     same_rest h e = rw (e, any_bundle h (accepted_lawful rules h e).roles_within bundle bytes-b)
 
     -- refused rules: the bundle is not looked at
-    unread : (s t : List ℕ) (c : Answer Head) → check_rules s ≡ c → check_rules t ≡ c → ((h : Head) → c ≡ gives h → given s (take room bundle) k ≡ given t bundle k) → given s (take room bundle) k ≡ given t bundle k
+    unread : (s t : List ℕ) (c : Answer Head) → check_rules s ≡ c → check_rules t ≡ c → ((h : Head) → c ≡ Ok h → given s (take room bundle) k ≡ given t bundle k) → given s (take room bundle) k ≡ given t bundle k
     unfolding given
-    unread s t (gives h) e f both = both h refl
-    unread s t (refuses r) e f both = rw (e, f)
+    unread s t (Ok h) e f both = both h refl
+    unread s t (Err r) e f both = rw (e, f)
 
     pub long_files : given (take room rules) (take room bundle) k ≡ given rules bundle k
     long_files = go (leb (length rules) room) refl

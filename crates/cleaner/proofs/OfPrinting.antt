@@ -10,8 +10,10 @@ use native.Mathlib.Omega.{arith}
 use borrow.Author.Tests.{leb-true}
 use borrow.Author.Rules.{rules}
 use Rattle.number.specs.Answer.{Answer, refusal, ◌then◌, over, laid}
-use Rattle.number.specs.Answer.Answer.{gives, refuses}
+use Rattle.std.specs.Prelude.{Ok, Err}
 use Rattle.number.specs.declared.refusal.Refusal.{Refusal}
+use Rattle.number.specs.declared.refusal.Fault.TheVariants.{Room}
+use Rattle.number.specs.declared.refusal.Side.TheVariants.{Call}
 use Rattle.site.specs.declared.fact.Fact.{Fact}
 use Rattle.rule.specs.declared.head.Head.{Head}
 use Rattle.rules.specs.RuleFile.{check_rules, site_of}
@@ -20,15 +22,15 @@ use Rattle.steps.specs.Tables.{Follows, follows_of}
 use Rattle.clashes.specs.Types.{itself}
 use Rattle.clashes.specs.Marks.{marks, partners, counts}
 use Rattle.clean.specs.Operations.{Marked, given, room_for_marks, marking}
-use Rattle.operations.specs.Promises.{counted_told, MarksAll}
-use Rattle.operations.specs.declared.mark.Counted.{Counted}
+use Rattle.clashes.specs.declared.answers.Counts.{Counts}
+use Rattle.operations.specs.Promises.{MarksAll}
 use Rattle.listing.specs.Listing.{lines_of}
 use Rattle.cleaner.specs.Prints.{Prints}
 
 -- what holds of every refusal and of all that may follow holds of the answer
-then_all : {A B : Type 0} (P : Answer B → Type 0) (a : Answer A) (k : A → Answer B) → ((r : Refusal) → P (refuses r)) → ((x : A) → P (k x)) → P (a then k)
-then_all P (gives x) k stops goes = goes x
-then_all P (refuses r) k stops goes = stops r
+then_all : {A B : Type 0} (P : Answer B → Type 0) (a : Answer A) (k : A → Answer B) → ((r : Refusal) → P (Err r)) → ((x : A) → P (k x)) → P (a then k)
+then_all P (Ok x) k stops goes = goes x
+then_all P (Err r) k stops goes = stops r
 
 both_tests : {A : Type 0} (P : A → Type 0) (t u : Bool) (x y : A) → (t ≡ true → u ≡ true → P x) → P y → P (cond (t && u) x y)
 both_tests P true true x y hold fail = hold refl refl
@@ -40,21 +42,21 @@ abbrev pub marks_of : Follows → List Fact → Marked
 marks_of t facts = record { counts = counts itself t facts; marks = marks itself t facts; partners = partners itself t facts }
 
 -- what holds of every refusal, and of the marks of all facts that both rows have room for, holds of what marking gives
-module _ (rules bundle : List ℕ) (m p : ℕ) (P : Answer Marked → Type 0) (stops : (r : Refusal) → P (refuses r)) (fits : (t : Follows) (facts : List Fact) → length facts ≤ m → length facts ≤ p → P (gives (marks_of t facts))) where
+module _ (rules bundle : List ℕ) (m p : ℕ) (P : Answer Marked → Type 0) (stops : (r : Refusal) → P (Err r)) (fits : (t : Follows) (facts : List Fact) → length facts ≤ m → length facts ≤ p → P (Ok (marks_of t facts))) where
   room_all : (facts : List Fact) (k : List Fact → Answer Marked) → (length facts ≤ m → length facts ≤ p → P (k facts)) → P (room_for_marks m p facts then k)
   unfolding room_for_marks
   room_all facts k fit =
-      both_tests (λ a. P (a then k)) (leb (length facts) m) (leb (length facts) p) (gives facts) (refuses (refusal 9 2 0))
+      both_tests (λ a. P (a then k)) (leb (length facts) m) (leb (length facts) p) (Ok facts) (Err (refusal Room Call 0))
       (λ t u. fit (leb-true (length facts) m t) (leb-true (length facts) p u))
-      (stops (refusal 9 2 0))
+      (stops (refusal Room Call 0))
 
   abbrev marked_by : Follows → List Fact → Answer Marked
-  marked_by t facts = room_for_marks m p facts then λ _. gives (marks_of t facts)
+  marked_by t facts = room_for_marks m p facts then λ _. Ok (marks_of t facts)
 
   bundle_all : (h : Head) → P (read_bundle h bundle then marked_by (follows_of (site_of rules h)))
   bundle_all h =
       then_all P (read_bundle h bundle) (marked_by (follows_of (site_of rules h))) stops
-      (λ facts. room_all facts (λ _. gives (marks_of (follows_of (site_of rules h)) facts)) (fits (follows_of (site_of rules h)) facts))
+      (λ facts. room_all facts (λ _. Ok (marks_of (follows_of (site_of rules h)) facts)) (fits (follows_of (site_of rules h)) facts))
 
   pub marking_all : P (marking rules bundle m p)
   unfolding marking given
@@ -65,7 +67,7 @@ module _ (rules bundle : List ℕ) (m p : ℕ) where
   abbrev Fits : Answer Marked → Type 0
   Fits a = (lines_of (over (λ x. x.counts) a) ≤ m + 1) × (lines_of (over (λ x. x.counts) a) ≤ p + 1)
 
-  facts_fit : (t : Follows) (facts : List Fact) → length facts ≤ m → length facts ≤ p → Fits (gives (marks_of t facts))
+  facts_fit : (t : Follows) (facts : List Fact) → length facts ≤ m → length facts ≤ p → Fits (Ok (marks_of t facts))
   unfolding counts
   facts_fit t facts a b = (omega arith, omega arith)
 
@@ -73,18 +75,18 @@ module _ (rules bundle : List ℕ) (m p : ℕ) where
   lines_fit = marking_all rules bundle m p Fits (λ r. (omega arith, omega arith)) facts_fit
 
 same_length : (row : List ℕ) (a : Answer (List ℕ)) → length (laid row 0 a) ≡ length row
-same_length row (gives l) = length-sets row 0 l
-same_length row (refuses r) = refl
+same_length row (Ok l) = length-sets row 0 l
+same_length row (Err r) = refl
 
-pub prints : (rules bundle row pair : List ℕ) (r : Counted) (row' pair' : List ℕ) → MarksAll rules bundle row pair r row' pair' → Prints r row' pair' 0
+pub prints : (rules bundle row pair : List ℕ) (r : Answer Counts) (row' pair' : List ℕ) → MarksAll rules bundle row pair r row' pair' → Prints r row' pair' 0
 prints rules bundle row pair r row' pair' all =
     let fit = lines_fit rules bundle (length row) (length pair) in
     record {
       marked = rw (all.answer, all.marks, same_length) fit.0;
       partnered = rw (all.answer, all.partners, same_length) fit.1;
-      within = some_line (counted_told r);
+      within = some_line r;
     }
   where
     some_line : (a : Answer _) → 0 < lines_of a
-    some_line (gives c) = omega arith
-    some_line (refuses r) = omega arith
+    some_line (Ok c) = omega arith
+    some_line (Err r) = omega arith

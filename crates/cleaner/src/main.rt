@@ -4,12 +4,12 @@
 
 ghost use Rattle.std.specs.Prelude.{take, OnOk};
 ghost use Rattle.std.specs.Io.KnownBytes.{Appends, Consumes};
-ghost use Rattle.operations.specs.Promises.{counted_told};
 ghost use Rattle.listing.specs.Listing.{lines_of, line_at, lines_from, listing_of};
 ghost use Rattle.cleaner.specs.Counts.{IsPrefixLen};
 ghost use Rattle.cleaner.specs.Prints.{Prints};
 
-use operations::Counted;
+use clashes::Counts;
+use number::Answer;
 use site::Fact;
 use std::io::{Read, Write};
 use std::rt::Files;
@@ -44,13 +44,13 @@ fn read_file(rt: &impl Files, path: &str, buffer: &mut [u8; 65536]) -> usize
 // The line of this number, after what has been written.
 fn print_line<W: Write>(
     out: &mut W,
-    counted: Counted,
+    counted: Answer<Counts>,
     marks: &[u8],
     partners: &[u16],
     number: usize,
 ) -> io::Result<()>
     requires { Prints counted marks.now partners.now number }
-    ensures { OnOk result (Appends (W.contents out.old) (W.contents out.new) (line_at (counted_told counted) marks.now partners.now number)) }
+    ensures { OnOk result (Appends (W.contents out.old) (W.contents out.new) (line_at counted marks.now partners.now number)) }
 {
     let mut line = [0u8; listing::ROOM];
     let length = listing::write_line(&mut line, counted, marks, partners, number);
@@ -60,19 +60,16 @@ fn print_line<W: Write>(
 // Every line, in order.
 fn print_listing<W: Write>(
     out: &mut W,
-    counted: Counted,
+    counted: Answer<Counts>,
     marks: &[u8],
     partners: &[u16],
 ) -> io::Result<()>
     requires { Prints counted marks.now partners.now 0 }
     ensures { OnOk result (Appends (W.contents out.old) (W.contents out.new)
-        (lines_from (counted_told counted) marks.now partners.now 0 (lines_of (counted_told counted)))) }
+        (lines_from counted marks.now partners.now 0 (lines_of counted))) }
 {
-    let count = listing::count_lines(counted);
-    let mut number = 0;
-    while number < count {
+    for number in 0..listing::count_lines(counted) {
         print_line(out, counted, marks, partners, number)?;
-        number += 1;
     }
     Ok(())
 }

@@ -9,7 +9,7 @@ use lib.ListN.{length, get_or}
 use borrow.Author.Tests.{ltb-true, lt-ltb}
 use native.Mathlib.Omega.{arith}
 use Rattle.number.specs.Answer.{laid}
-use Rattle.number.specs.Answer.Answer.{gives}
+use Rattle.std.specs.Prelude.{Some, None, Ok}
 use Rattle.site.specs.declared.fact.Fact.{Fact}
 use Rattle.site.proofs.Lists.{true_not_false}
 use Rattle.bundle.specs.Bundle.{bundle_of}
@@ -17,7 +17,6 @@ use Rattle.clashes.specs.Types.{itself, Typ}
 use Rattle.clashes.specs.Marks.{mark, partner, counts, kept, support}
 use Rattle.clashes.proofs.OfMarks.{marks_add_up}
 use Rattle.clean.specs.Operations.{reply_of}
-use Rattle.clean.specs.Operations.Reply.{yes_by, none}
 use Rattle.shown.specs.Shown.{shown_counts, shown_reply, shown_length}
 use Rattle.shown.specs.declared.shapes.DzyCounts.{DzyCounts}
 use Rattle.shown.specs.declared.shapes.DzyAsked.{DzyAsked}
@@ -26,7 +25,7 @@ use Rattle.shown.specs.declared.shapes.DzyLength.{DzyLength}
 use Rattle.dzyunagor.specs.Promises.{Mark, Ask, WriteKept}
 use Rattle.demands.specs.Demands.{Done, BothRead, site, FactAsSaid, CountsAsSaid, KeptFacts, AsDocument01}
 use Rattle.demands.specs.Said.{Numbered, LowestSupport, AnswerIs}
-use Rattle.demands.specs.Said.AnswerIs.{yes_by as yes-so, no_fact_lem}
+use Rattle.demands.specs.Said.AnswerIs.{yes_by, no_fact_lem}
 use Rattle.demands.proofs.BySteps.{get_or_any, those_once, mark_said, partner_said, kept_those, kept_many, alone_many, disputed_many, support_said, no_support}
 use Rattle.demands.proofs.Computed.{tables, decided, count_is, ask_is, Replied, has_is, joins_is, mark_counts_is, mark_is, partner_is, write_kept_is}
 
@@ -44,7 +43,7 @@ module _ {rules bundle : List ℕ} (a : BothRead rules bundle) where
   row_said marks partners marks' partners' r p done k f n =
       subst₂ (FactAsSaid a f) (sym (mark_is a marks partners marks' partners' r p done k f n)) (sym (partner_is a marks partners marks' partners' r p done k f n)) (fact_said f)
 
-  counts_said : (r : DzyCounts) → r ≡ shown_counts (gives (counts itself (tables a) a.facts)) → CountsAsSaid a r
+  counts_said : (r : DzyCounts) → r ≡ shown_counts (Ok (counts itself (tables a) a.facts)) → CountsAsSaid a r
   unfolding counts
   counts_said r e =
       subst⁻¹ (CountsAsSaid a) e
@@ -69,9 +68,9 @@ module _ {rules bundle : List ℕ} (a : BothRead rules bundle) where
       subst⁻¹ (λ (x : DzyAnswer). AnswerIs itself (site a) a.facts asked x.yes x.fact) q.seen (go n refl (ltb n (length a.facts)) refl)
     where
       go : (n : ℕ) → n ≡ support itself (tables a) a.facts asked → (b : Bool) → ltb n (length a.facts) ≡ b
-          → AnswerIs itself (site a) a.facts asked (shown_reply (cond b (yes_by n) none)).yes (shown_reply (cond b (yes_by n) none)).fact
+          → AnswerIs itself (site a) a.facts asked (shown_reply (cond b (Some n) None)).yes (shown_reply (cond b (Some n) None)).fact
       go n same true e =
-          yes-so
+          yes_by
           (subst⁻¹ (λ (m : ℕ). LowestSupport itself (site a) a.facts asked m) same
           (support_said itself (site a) (tables a) (decided a) a.facts asked (omega (arith, ltb-true n (length a.facts) e))))
       go n same false e =
@@ -80,11 +79,11 @@ module _ {rules bundle : List ℕ} (a : BothRead rules bundle) where
           (λ less. true_not_false (lt-ltb n (length a.facts) (omega arith)) e))
 
   kept_said : (out out' : List ℕ) (r : DzyLength) → WriteKept rules bundle out r out' → Done r.refused
-      → (facts : List Fact) → KeptFacts a facts → (r ≡ shown_length (gives (length (bundle_of facts)))) × (out' ≡ laid out 0 (gives (bundle_of facts)))
+      → (facts : List Fact) → KeptFacts a facts → (r ≡ shown_length (Ok (length (bundle_of facts)))) × (out' ≡ laid out 0 (Ok (bundle_of facts)))
   kept_said out out' r p done facts are =
       let w = write_kept_is a out out' r p done in
       let same : kept itself (tables a) a.facts ≡ facts = those_once (kept_those itself (site a) (tables a) (decided a) a.facts) are in
-      (w.answer ∙ ap (λ (l : List Fact). shown_length (gives (length (bundle_of l)))) same, w.memory ∙ ap (λ (l : List Fact). laid out 0 (gives (bundle_of l))) same)
+      (w.answer ∙ ap (λ (l : List Fact). shown_length (Ok (length (bundle_of l)))) same, w.memory ∙ ap (λ (l : List Fact). laid out 0 (Ok (bundle_of l))) same)
 
   pub as_document_01 : AsDocument01 a
   as_document_01 =

@@ -9,7 +9,9 @@ use lib.ListN.{length, length-map, get_or}
 use native.Mathlib.Omega.{arith}
 use borrow.Author.Tests.{leb-true, lt-ltb}
 use Rattle.number.specs.Answer.{Answer, refusal, ◌then◌, over, laid}
-use Rattle.number.specs.Answer.Answer.{gives, refuses}
+use Rattle.number.specs.declared.refusal.Fault.TheVariants.{Over, Unknown, Room, NoFact}
+use Rattle.number.specs.declared.refusal.Side.TheVariants.{Call}
+use Rattle.std.specs.Prelude.{Option, Ok, Err}
 use Rattle.number.proofs.Laid.{laid_at}
 use Rattle.number.proofs.Answers.{went, passed, given_once}
 use Rattle.site.specs.Codes.{concept_of, role_of, concept_declared, role_declared}
@@ -26,9 +28,11 @@ use Rattle.steps.specs.Tables.{Follows, follows_of}
 use Rattle.steps.proofs.Decided.{decides}
 use Rattle.clashes.specs.Types.{itself, Typ, typ}
 use Rattle.clashes.specs.Marks.{mark, marks, partner, partners, counts, kept}
+use Rattle.clashes.specs.Judging.{judged}
 use Rattle.clashes.specs.declared.answers.Judged.{Judged}
-use Rattle.clean.specs.Operations.{given, room_for_marks, Marked, marking, counting, asking, Reply, reply_of, thing_known, having, joining, keeping}
-use Rattle.shown.specs.Shown.{shown_counts, shown_asked, shown_reply, shown_answer, shown_length}
+use Rattle.clashes.proofs.OfJudged.{judged_mark, judged_partner}
+use Rattle.clean.specs.Operations.{given, room_for_marks, Marked, marking, counting, asking, reply_of, thing_known, having, joining, keeping}
+use Rattle.shown.specs.Shown.{not_refused, shown_counts, shown_asked, shown_reply, shown_answer, shown_length}
 use Rattle.shown.specs.declared.shapes.DzyCounts.{DzyCounts}
 use Rattle.shown.specs.declared.shapes.DzyAsked.{DzyAsked}
 use Rattle.shown.specs.declared.shapes.DzyAnswer.{DzyAnswer}
@@ -58,13 +62,21 @@ module _ {rules bundle : List ℕ} (a : BothRead rules bundle) where
   given_is k = rw (a.rules_read, a.bundle_read)
 
   -- ---- counting
-  pub count_is : (r : DzyCounts) → Count rules bundle r → r ≡ shown_counts (gives (counts itself tables a.facts))
+  pub count_is : (r : DzyCounts) → Count rules bundle r → r ≡ shown_counts (Ok (counts itself tables a.facts))
   unfolding Count counting
-  count_is r p = p ∙ ap shown_counts (given_is (λ h t facts. gives (counts itself t facts)))
+  count_is r p = p ∙ ap shown_counts (given_is (λ h t facts. Ok (counts itself t facts)))
 
   -- ---- one fact
   abbrev pub judged_of : Fact → Judged
-  judged_of f = record { mark = mark itself tables a.facts f; partner = partner itself tables a.facts f }
+  judged_of = judged itself tables a.facts
+
+  -- its mark and its partner, as C sees them
+  abbrev pub asked_of : Fact → DzyAsked
+  asked_of f = record { refused = not_refused; mark = mark itself tables a.facts f; partner = partner itself tables a.facts f }
+
+  shown_judged : (f : Fact) → shown_asked (Ok (judged_of f)) ≡ asked_of f
+  shown_judged f i =
+      record { refused = not_refused; mark = judged_mark itself tables a.facts f i; partner = judged_partner itself tables a.facts f i }
 
   abbrev pub nowhere : Fact
   nowhere = record { predicate = 0; subject = 0; object = 0 }
@@ -72,18 +84,19 @@ module _ {rules bundle : List ℕ} (a : BothRead rules bundle) where
   abbrev pub asks_fact : ℕ → Head → Follows → List Fact → Answer Judged
   asks_fact n h t facts =
       cond (ltb n (length facts))
-      (gives (record { mark = mark itself t facts (get_or facts n nowhere); partner = partner itself t facts (get_or facts n nowhere) }))
-      (refuses (refusal 10 2 0))
+      (Ok (judged itself t facts (get_or facts n nowhere)))
+      (Err (refusal NoFact Call 0))
 
   module _ (k : ℕ) (r : DzyAsked) (p : Ask rules bundle k r) where
     pub asked_so : r ≡ shown_asked (asks_fact k a.head tables a.facts)
     unfolding Ask asking
     asked_so = p ∙ ap shown_asked (given_is (asks_fact k))
 
-    pub ask_is : (f : Fact) → Numbered a.facts k f → get_or a.facts k nowhere ≡ f → r ≡ shown_asked (gives (judged_of f))
+    pub ask_is : (f : Fact) → Numbered a.facts k f → get_or a.facts k nowhere ≡ f → r ≡ asked_of f
     ask_is f n same =
-        asked_so ∙ ap (λ b. shown_asked (cond b (gives (judged_of (get_or a.facts k nowhere))) (refuses (refusal 10 2 0)))) (lt-ltb k (length a.facts) n.inside)
-        ∙ ap (λ (g : Fact). shown_asked (gives (judged_of g))) same
+        asked_so ∙ ap (λ b. shown_asked (cond b (Ok (judged_of (get_or a.facts k nowhere))) (Err (refusal NoFact Call 0)))) (lt-ltb k (length a.facts) n.inside)
+        ∙ ap (λ (g : Fact). shown_asked (Ok (judged_of g))) same
+        ∙ shown_judged f
 
   -- ---- questions: the code was declared, the things within the limit, and the answer is the definition's
   pub record Replied (declared : Type 0) (asked : Typ) (r : DzyAnswer) : Type 0 where
@@ -93,17 +106,17 @@ module _ {rules bundle : List ℕ} (a : BothRead rules bundle) where
     pub seen : r ≡ shown_reply (reply_of tables a.facts asked)
 
   -- a thing that was asked for is within the limit
-  thing_within : (thing known : ℕ) → thing_known thing ≡ gives known → (thing ≤ most_thing) × (known ≡ thing)
+  thing_within : (thing known : ℕ) → thing_known thing ≡ Ok known → (thing ≤ most_thing) × (known ≡ thing)
   thing_within thing known e =
-      let t = passed (leb thing most_thing) (gives thing) (refusal 3 2 0) e in
+      let t = passed (leb thing most_thing) (Ok thing) (refusal Over Call 0) e in
       (leb-true thing most_thing t.test, sym (given_once t.answer))
 
   module _ (code thing : ℕ) where
-    abbrev pub asks : Head → Follows → List Fact → Answer Reply
+    abbrev pub asks : Head → Follows → List Fact → Answer (Option ℕ)
     asks h t facts =
-        cond (concept_declared h.concepts h.roles code) (gives code) (refuses (refusal 5 2 0)) then λ _.
+        cond (concept_declared h.concepts h.roles code) (Ok code) (Err (refusal Unknown Call 0)) then λ _.
         thing_known thing then λ x.
-        gives (reply_of t facts (typ (concept (concept_of code)) x x))
+        Ok (reply_of t facts (typ (concept (concept_of code)) x x))
 
     pub asks_is : having rules bundle code thing ≡ asks a.head tables a.facts
     unfolding having
@@ -114,25 +127,25 @@ module _ {rules bundle : List ℕ} (a : BothRead rules bundle) where
     unfolding Has
     has_is r p done =
         let g = (has_tells rules bundle code thing r p).given done in
-        let w = went (cond (concept_declared a.head.concepts a.head.roles code) (gives code) (refuses (refusal 5 2 0))) _ (sym asks_is ∙ g.is) in
+        let w = went (cond (concept_declared a.head.concepts a.head.roles code) (Ok code) (Err (refusal Unknown Call 0))) _ (sym asks_is ∙ g.is) in
         let v = went (thing_known thing) _ w.rest in
         let known = thing_within thing v.value v.first in
         let asked : ℕ → Typ = λ x. typ (concept (concept_of code)) x x in
         let reply : g.value ≡ reply_of tables a.facts (asked thing) = sym (given_once v.rest) ∙ ap (λ (x : ℕ). reply_of tables a.facts (asked x)) known.1 in
         record {
-          known = (passed (concept_declared a.head.concepts a.head.roles code) (gives code) (refusal 5 2 0) w.first).test;
+          known = (passed (concept_declared a.head.concepts a.head.roles code) (Ok code) (refusal Unknown Call 0) w.first).test;
           from_within = known.0;
           to_within = known.0;
           seen = p ∙ ap shown_answer g.is ∙ ap shown_reply reply;
         }
 
   module _ (code from to : ℕ) where
-    abbrev pub asks_pair : Head → Follows → List Fact → Answer Reply
+    abbrev pub asks_pair : Head → Follows → List Fact → Answer (Option ℕ)
     asks_pair h t facts =
-        cond (role_declared h.roles code) (gives code) (refuses (refusal 5 2 0)) then λ _.
+        cond (role_declared h.roles code) (Ok code) (Err (refusal Unknown Call 0)) then λ _.
         thing_known from then λ x.
         thing_known to then λ y.
-        gives (reply_of t facts (typ (role (role_of code)) x y))
+        Ok (reply_of t facts (typ (role (role_of code)) x y))
 
     pub asks_pair_is : joining rules bundle code from to ≡ asks_pair a.head tables a.facts
     unfolding joining
@@ -143,7 +156,7 @@ module _ {rules bundle : List ℕ} (a : BothRead rules bundle) where
     unfolding Joins
     joins_is r p done =
         let g = (joins_tells rules bundle code from to r p).given done in
-        let w = went (cond (role_declared a.head.roles code) (gives code) (refuses (refusal 5 2 0))) _ (sym asks_pair_is ∙ g.is) in
+        let w = went (cond (role_declared a.head.roles code) (Ok code) (Err (refusal Unknown Call 0))) _ (sym asks_pair_is ∙ g.is) in
         let v = went (thing_known from) _ w.rest in
         let u = went (thing_known to) _ v.rest in
         let first = thing_within from v.value v.first in
@@ -152,7 +165,7 @@ module _ {rules bundle : List ℕ} (a : BothRead rules bundle) where
         let reply : g.value ≡ reply_of tables a.facts (asked from to) =
         sym (given_once u.rest) ∙ ap (λ (x : ℕ). reply_of tables a.facts (asked x u.value)) first.1 ∙ ap (λ (y : ℕ). reply_of tables a.facts (asked from y)) second.1 in
         record {
-          known = (passed (role_declared a.head.roles code) (gives code) (refusal 5 2 0) w.first).test;
+          known = (passed (role_declared a.head.roles code) (Ok code) (refusal Unknown Call 0) w.first).test;
           from_within = first.0;
           to_within = second.0;
           seen = p ∙ ap shown_answer g.is ∙ ap shown_reply reply;
@@ -161,7 +174,7 @@ module _ {rules bundle : List ℕ} (a : BothRead rules bundle) where
   -- ---- marking
   module _ (row pair : List ℕ) where
     abbrev pub marking_of : Head → Follows → List Fact → Answer Marked
-    marking_of h t facts = room_for_marks (length row) (length pair) facts then λ _. gives (record { counts = counts itself t facts; marks = marks itself t facts; partners = partners itself t facts })
+    marking_of h t facts = room_for_marks (length row) (length pair) facts then λ _. Ok (record { counts = counts itself t facts; marks = marks itself t facts; partners = partners itself t facts })
 
     pub marking_is : marking rules bundle (length row) (length pair) ≡ marking_of a.head tables a.facts
     unfolding marking
@@ -172,7 +185,7 @@ module _ {rules bundle : List ℕ} (a : BothRead rules bundle) where
 
     -- what an answer that is no refusal says of the rows
     record Roomy : Type 0 where
-      is : marking rules bundle (length row) (length pair) ≡ gives all_marked
+      is : marking rules bundle (length row) (length pair) ≡ Ok all_marked
       long : length a.facts ≤ length row
       wide : length a.facts ≤ length pair
 
@@ -182,18 +195,18 @@ module _ {rules bundle : List ℕ} (a : BothRead rules bundle) where
       roomy =
           let g = (mark_tells rules bundle row pair row' pair' r p).given done in
           let w = went (room_for_marks (length row) (length pair) a.facts) _ (sym marking_is ∙ g.is) in
-          let room = (passed (leb (length a.facts) (length row) && leb (length a.facts) (length pair)) (gives a.facts) (refusal 9 2 0) w.first).test in
+          let room = (passed (leb (length a.facts) (length row) && leb (length a.facts) (length pair)) (Ok a.facts) (refusal Room Call 0) w.first).test in
           record {
             is = g.is ∙ sym w.rest;
             long = leb-true (length a.facts) (length row) (and_left (leb (length a.facts) (length row)) _ room);
             wide = leb-true (length a.facts) (length pair) (and_right (leb (length a.facts) (length row)) _ room);
           }
 
-      pub mark_counts_is : r ≡ shown_counts (gives (counts itself tables a.facts))
+      pub mark_counts_is : r ≡ shown_counts (Ok (counts itself tables a.facts))
       mark_counts_is = p.answer ∙ ap (λ (m : Answer Marked). shown_counts (over (λ x. x.counts) m)) roomy.is
 
       -- what was laid into a row for a fact
-      laid_row : (out : List ℕ) (f : Fact → ℕ) → length a.facts ≤ length out → (k : ℕ) (d : Fact) → k < length a.facts → get_or (laid out 0 (gives (map f a.facts))) k 0 ≡ f (get_or a.facts k d)
+      laid_row : (out : List ℕ) (f : Fact → ℕ) → length a.facts ≤ length out → (k : ℕ) (d : Fact) → k < length a.facts → get_or (laid out 0 (Ok (map f a.facts))) k 0 ≡ f (get_or a.facts k d)
       laid_row out f fits k d less =
           laid_at out (map f a.facts) (omega (arith, length-map a.facts f)) k 0 (omega (arith, length-map a.facts f)) ∙ row_at f a.facts k d less
 
@@ -223,15 +236,15 @@ module _ {rules bundle : List ℕ} (a : BothRead rules bundle) where
   module _ (out out' : List ℕ) (r : DzyLength) (p : WriteKept rules bundle out r out') (done : Done r.refused) where
     pub record WroteKept : Type 0 where
       pub fits : length kept_bundle ≤ length out
-      pub answer : r ≡ shown_length (gives (length kept_bundle))
-      pub memory : out' ≡ laid out 0 (gives kept_bundle)
+      pub answer : r ≡ shown_length (Ok (length kept_bundle))
+      pub memory : out' ≡ laid out 0 (Ok kept_bundle)
 
     pub write_kept_is : WroteKept
     unfolding room_for
     write_kept_is =
         let g = (write_kept_tells rules bundle out out' r p).given done in
-        let t = passed (leb (length kept_bundle) (length out)) (gives kept_bundle) (refusal 9 2 0) (sym (keeping_is (length out)) ∙ g.is) in
-        let is : keeping rules bundle (length out) ≡ gives kept_bundle = g.is ∙ sym t.answer in
+        let t = passed (leb (length kept_bundle) (length out)) (Ok kept_bundle) (refusal Room Call 0) (sym (keeping_is (length out)) ∙ g.is) in
+        let is : keeping rules bundle (length out) ≡ Ok kept_bundle = g.is ∙ sym t.answer in
         record {
           fits = leb-true (length kept_bundle) (length out) t.test;
           answer = p.answer ∙ ap (λ (b : Answer (List ℕ)). shown_length (over length b)) is;

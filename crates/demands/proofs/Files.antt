@@ -6,7 +6,7 @@ use mathlib.Core.Logic.{inl, inr}
 use mathlib.Core.List.{List}
 use lib.ListN.{length}
 use Rattle.number.specs.Answer.{Answer, ◌then◌, over}
-use Rattle.number.specs.Answer.Answer.{gives, refuses}
+use Rattle.std.specs.Prelude.{Ok, Err}
 use Rattle.number.specs.declared.refusal.Refusal.{Refusal}
 use Rattle.number.proofs.Answers.{Halts, halts, never, same_refused}
 use Rattle.number.proofs.Answers.Halts.{at_first, at_rest}
@@ -34,28 +34,28 @@ use Rattle.shown.specs.declared.shapes.DzyLength.{DzyLength}
 use Rattle.shown.specs.declared.shapes.DzyStart.{DzyStart}
 use Rattle.demands.specs.Demands.{RefusesFiles, ReadOrRefused, ItemThere}
 
-module _ (rules bundle : List ℕ) (q : Refusal) (e : opening rules bundle ≡ refuses q) where
+module _ (rules bundle : List ℕ) (q : Refusal) (e : opening rules bundle ≡ Err q) where
   -- whatever is asked of the files, their refusal is the answer
   module _ {A : Type 0} (k : Head → Follows → List Fact → Answer A) where
-    by_bundle : (h : Head) (c : Answer Facts) → ◌≡◌ {A = Answer Inputs} (c then λ b. gives (record { head = h; facts = b })) (refuses q)
-        → (over (facts_of bundle) c then λ facts. k h (follows_of (site_of rules h)) facts) ≡ refuses q
-    by_bundle h (gives b) z = absurd (never (sym z))
-    by_bundle h (refuses r) z = ap refuses (same_refused z)
+    by_bundle : (h : Head) (c : Answer Facts) → ◌≡◌ {A = Answer Inputs} (c then λ b. Ok (record { head = h; facts = b })) (Err q)
+        → (over (facts_of bundle) c then λ facts. k h (follows_of (site_of rules h)) facts) ≡ Err q
+    by_bundle h (Ok b) z = absurd (never (sym z))
+    by_bundle h (Err r) z = ap Err (same_refused z)
 
-    by_rules : (c : Answer Head) → ◌≡◌ {A = Answer Inputs} (c then λ h. check_bundle h bundle then λ b. gives (record { head = h; facts = b })) (refuses q)
-        → (c then λ h. over (facts_of bundle) (check_bundle h bundle) then λ facts. k h (follows_of (site_of rules h)) facts) ≡ refuses q
-    by_rules (gives h) z = by_bundle h (check_bundle h bundle) z
-    by_rules (refuses r) z = ap refuses (same_refused z)
+    by_rules : (c : Answer Head) → ◌≡◌ {A = Answer Inputs} (c then λ h. check_bundle h bundle then λ b. Ok (record { head = h; facts = b })) (Err q)
+        → (c then λ h. over (facts_of bundle) (check_bundle h bundle) then λ facts. k h (follows_of (site_of rules h)) facts) ≡ Err q
+    by_rules (Ok h) z = by_bundle h (check_bundle h bundle) z
+    by_rules (Err r) z = ap Err (same_refused z)
 
-    given_refused : given rules bundle k ≡ refuses q
+    given_refused : given rules bundle k ≡ Err q
     unfolding given opening read_bundle
     given_refused = by_rules (check_rules rules) e
 
-  hand_refused : (room : ℕ) → hand_records rules bundle room ≡ refuses q
+  hand_refused : (room : ℕ) → hand_records rules bundle room ≡ Err q
   unfolding hand_records hand_out
   hand_refused room = rw e
 
-  start_refused : reader_start rules bundle ≡ refuses q
+  start_refused : reader_start rules bundle ≡ Err q
   unfolding reader_start
   start_refused = rw e
 
@@ -75,15 +75,15 @@ module _ (rules bundle : List ℕ) (q : Refusal) (e : opening rules bundle ≡ r
       }
 
 -- the refusal is about the item there
-item_there : (rules bundle : List ℕ) (q : Refusal) → opening rules bundle ≡ refuses q → ItemThere rules bundle q
+item_there : (rules bundle : List ℕ) (q : Refusal) → opening rules bundle ≡ Err q → ItemThere rules bundle q
 unfolding opening
 item_there rules bundle q e = of_files (halts (check_rules rules) _ q e)
   where
-    of_bundle : (h : Head) → check_rules rules ≡ gives h → Halts {B = Inputs} (check_bundle h bundle) (λ b. gives (record { head = h; facts = b })) q → ItemThere rules bundle q
+    of_bundle : (h : Head) → check_rules rules ≡ Ok h → Halts {B = Inputs} (check_bundle h bundle) (λ b. Ok (record { head = h; facts = b })) q → ItemThere rules bundle q
     of_bundle h accepted (at_first f) = inr (h, accepted, bundle_fault h bundle q f)
     of_bundle h accepted (at_rest b f g) = absurd (never (sym g))
 
-    of_files : Halts {B = Inputs} (check_rules rules) (λ h. check_bundle h bundle then λ b. gives (record { head = h; facts = b })) q → ItemThere rules bundle q
+    of_files : Halts {B = Inputs} (check_rules rules) (λ h. check_bundle h bundle then λ b. Ok (record { head = h; facts = b })) q → ItemThere rules bundle q
     of_files (at_first f) = inl (rules_fault rules q f)
     of_files (at_rest h f g) = of_bundle h f (halts (check_bundle h bundle) _ q g)
 
@@ -92,7 +92,7 @@ unfolding read_bundle
 read_or_refused rules bundle = go (opening rules bundle) refl
   where
     go : (o : Answer Inputs) → opening rules bundle ≡ o → ReadOrRefused rules bundle
-    go (gives i) e =
+    go (Ok i) e =
         let a = opening_accepted rules bundle i e in
         inl (record { head = i.head; facts = facts_of bundle i.facts; rules_read = a.of_rules; bundle_read = ap (over (facts_of bundle)) a.of_bundle })
-    go (refuses q) e = inr (q, e, refuses_files rules bundle q e, item_there rules bundle q e)
+    go (Err q) e = inr (q, e, refuses_files rules bundle q e, item_there rules bundle q e)

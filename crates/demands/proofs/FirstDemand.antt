@@ -5,10 +5,13 @@ use mathlib.Core.Path.{◌≡◌, sym, ap, subst, ◌∙◌}
 use mathlib.Core.List.{List}
 use lib.ListN.{length}
 use borrow.Author.Tests.{lt-leb}
-use Rattle.number.specs.Answer.{Answer, Read, refusal, over as over_answer, laid}
-use Rattle.number.specs.Answer.Answer.{gives, refuses}
+use Rattle.number.specs.Answer.{Answer, refusal, over as over_answer, laid}
+use Rattle.std.specs.Prelude.{Ok, Err}
 use Rattle.number.specs.Number.{number_at}
 use Rattle.number.specs.declared.refusal.Refusal.{Refusal}
+use Rattle.number.specs.declared.read.Read.{Read}
+use Rattle.number.specs.declared.refusal.Fault.TheVariants.{Count}
+use Rattle.number.specs.declared.refusal.Side.TheVariants.{Rules, Bundle}
 use Rattle.number.proofs.Answers.{went, given_once, over_given}
 use Rattle.site.specs.Items.{count_at, tested_at, at_most}
 use Rattle.site.specs.Limits.{most_concepts, most_roles, most_rules, most_facts, most_number}
@@ -34,7 +37,7 @@ use Rattle.shown.specs.declared.shapes.DzyLength.{DzyLength}
 use Rattle.shown.specs.declared.shapes.DzyYield.{DzyYield}
 use Rattle.dzyunagor.specs.Promises.{CheckBundle, Mark, WriteKept, Records, WriteRecords, ReaderNext}
 use Rattle.promises.proofs.OneAnswer.{one_check_rules, one_check_bundle, one_mark, one_count, one_ask, one_has, one_joins, one_write_kept, one_records, one_write_records, one_reader_start, one_reader_next}
-use Rattle.promises.proofs.NeverZero.{check_bundle_tells, mark_tells, write_kept_tells, records_tells, write_records_tells, reader_next_tells, refusal_shown}
+use Rattle.promises.proofs.NeverZero.{check_bundle_tells, mark_tells, write_kept_tells, records_tells, write_records_tells, reader_next_tells}
 use Rattle.demands.specs.Demands.{Done, Refused, BothRead, OneAnswer, WritesNothing, OverLimits}
 
 pub one_answer : (rules bundle : List ℕ) → OneAnswer rules bundle
@@ -55,34 +58,33 @@ one_answer rules bundle =
     }
 
 -- what a refusal lays into lent memory is nothing
-module _ {A : Type 0} (a : Answer A) (q : Refusal) (stopped : a ≡ refuses q) where
+module _ {A : Type 0} (a : Answer A) (q : Refusal) (stopped : a ≡ Err q) where
   nothing_laid : {B : Type 0} (f : A → List B) (out : List B) → laid out 0 (over_answer f a) ≡ out
   nothing_laid f out = rw stopped
 
-no_bytes : {B : Type 0} (a : Answer (List B)) (q : Refusal) (out : List B) → a ≡ refuses q → laid out 0 a ≡ out
+no_bytes : {B : Type 0} (a : Answer (List B)) (q : Refusal) (out : List B) → a ≡ Err q → laid out 0 a ≡ out
 no_bytes a q out stopped = rw stopped
 
 module _ (rules bundle : List ℕ) where
   mark_writes : (marks partners marks' partners' : List ℕ) (r : DzyCounts) → Mark rules bundle marks partners r marks' partners' → Refused r.refused → (marks' ≡ marks) × (partners' ≡ partners)
   mark_writes marks partners marks' partners' r p low =
       let a : Answer Marked = marking rules bundle (length marks) (length partners) in
-      let x = r.refused in
       let stopped = (mark_tells rules bundle marks partners marks' partners' r p).refused low in
-      (p.marks ∙ nothing_laid a (refusal_shown x) stopped (λ m. m.marks) marks, p.partners ∙ nothing_laid a (refusal_shown x) stopped (λ m. m.partners) partners)
+      (p.marks ∙ nothing_laid a stopped.refusal stopped.is (λ m. m.marks) marks, p.partners ∙ nothing_laid a stopped.refusal stopped.is (λ m. m.partners) partners)
 
   kept_writes : (out out' : List ℕ) (r : DzyLength) → WriteKept rules bundle out r out' → Refused r.refused → out' ≡ out
-  kept_writes out out' r p low = p.memory ∙ no_bytes (keeping rules bundle (length out)) _ out ((write_kept_tells rules bundle out out' r p).refused low)
+  kept_writes out out' r p low = p.memory ∙ no_bytes (keeping rules bundle (length out)) _ out ((write_kept_tells rules bundle out out' r p).refused low).is
 
   records_write : (row row' : List Record) (r : DzyLength) → Records rules bundle row r row' → Refused r.refused → row' ≡ row
-  records_write row row' r p low = p.memory ∙ no_bytes (hand_records rules bundle (length row)) _ row ((records_tells rules bundle row row' r p).refused low)
+  records_write row row' r p low = p.memory ∙ no_bytes (hand_records rules bundle (length row)) _ row ((records_tells rules bundle row row' r p).refused low).is
 
   row_writes : (row : List Record) (out out' : List ℕ) (r : DzyLength) → WriteRecords rules row out r out' → Refused r.refused → out' ≡ out
-  row_writes row out out' r p low = p.memory ∙ no_bytes (write_row rules (length out) row) _ out ((write_records_tells rules row out out' r p).refused low)
+  row_writes row out out' r p low = p.memory ∙ no_bytes (write_row rules (length out) row) _ out ((write_records_tells rules row out out' r p).refused low).is
 
 reader_writes : (before left : Reader) (r : DzyYield) → ReaderNext before r left → Refused r.refused → left ≡ before
 reader_writes before left r p low =
     let src : left.src ≡ before.src = p.bundle in
-    let at : left.at ≡ before.at = p.next ∙ refused_stays before.src.now before.at _ ((reader_next_tells before left r p).refused low) in
+    let at : left.at ≡ before.at = p.next ∙ refused_stays before.src.now before.at _ ((reader_next_tells before left r p).refused low).is in
     λ i. record { src = src i; at = at i }
 
 pub writes_nothing : (rules bundle : List ℕ) → WritesNothing rules bundle
@@ -97,12 +99,12 @@ writes_nothing rules bundle =
 
 -- ---- a bundle over a limit
 module _ (rules bundle : List ℕ) where
-  stopped_at_count : (h : Head) (n : Read ℕ) → check_rules rules ≡ gives h → number_at bundle 0 most_number 1 ≡ gives n → most_facts < n.value → opening rules bundle ≡ refuses (refusal 4 1 0)
+  stopped_at_count : (h : Head) (n : Read ℕ) → check_rules rules ≡ Ok h → number_at bundle 0 most_number Bundle ≡ Ok n → most_facts < n.value → opening rules bundle ≡ Err (refusal Count Bundle 0)
   unfolding opening check_bundle tested_at at_most
   stopped_at_count h n accepted counted over = rw (accepted, counted, lt-leb n.value most_facts over)
 
-  too_many : (h : Head) (n : Read ℕ) (r : DzyLength) → check_rules rules ≡ gives h → number_at bundle 0 most_number 1 ≡ gives n → most_facts < n.value
-      → CheckBundle rules bundle r → r.refused ≡ refused (refusal 4 1 0)
+  too_many : (h : Head) (n : Read ℕ) (r : DzyLength) → check_rules rules ≡ Ok h → number_at bundle 0 most_number Bundle ≡ Ok n → most_facts < n.value
+      → CheckBundle rules bundle r → r.refused ≡ refused (refusal Count Bundle 0)
   unfolding CheckBundle
   too_many h n r accepted counted over p =
       ap (λ (x : DzyLength). x.refused) (p ∙ ap (λ (o : Answer Inputs). shown_length (over_answer (λ i. i.facts.count) o)) (stopped_at_count h n accepted counted over))
@@ -110,11 +112,11 @@ module _ (rules bundle : List ℕ) where
   few_rules : (a : BothRead rules bundle) → (a.head.concepts ≤ most_concepts) × (a.head.roles ≤ most_roles) × (a.head.rules ≤ most_rules)
   unfolding head_of
   few_rules a =
-      let c = went (count_at rules 0 most_concepts 0) _ (accepted_rules rules a.head a.rules_read).head in
-      let q = went (count_at rules c.value.next most_roles 0) _ c.rest in
-      let n = went (count_at rules q.value.next most_rules 0) _ q.rest in
+      let c = went (count_at rules 0 most_concepts Rules) _ (accepted_rules rules a.head a.rules_read).head in
+      let q = went (count_at rules c.value.next most_roles Rules) _ c.rest in
+      let n = went (count_at rules q.value.next most_rules Rules) _ q.rest in
       subst (λ (h : Head). (h.concepts ≤ most_concepts) × (h.roles ≤ most_roles) × (h.rules ≤ most_rules)) (given_once n.rest)
-      ((count_there rules 0 most_concepts 0 c.value c.first).within, (count_there rules c.value.next most_roles 0 q.value q.first).within, (count_there rules q.value.next most_rules 0 n.value n.first).within)
+      ((count_there rules 0 most_concepts Rules c.value c.first).within, (count_there rules c.value.next most_roles Rules q.value q.first).within, (count_there rules q.value.next most_rules Rules n.value n.first).within)
 
   lawful_facts : (a : BothRead rules bundle) → LawfulFacts a.head a.facts
   unfolding read_bundle
@@ -131,16 +133,16 @@ module _ (rules bundle : List ℕ) where
       let v = went (check_bundle w.value bundle) _ w.rest in
       record { head = w.value; facts = facts_of bundle v.value; rules_read = w.first; bundle_read = ap (over_answer (facts_of bundle)) v.first }
 
-  opened : (h : Head) (b : Facts) → check_rules rules ≡ gives h → check_bundle h bundle ≡ gives b → opening rules bundle ≡ gives (record { head = h; facts = b })
+  opened : (h : Head) (b : Facts) → check_rules rules ≡ Ok h → check_bundle h bundle ≡ Ok b → opening rules bundle ≡ Ok (record { head = h; facts = b })
   unfolding opening
   opened h b accepted read = rw (accepted, read)
 
-  all_counted : (a : BothRead rules bundle) (r : DzyLength) → CheckBundle rules bundle r → r ≡ shown_length (gives (length a.facts))
+  all_counted : (a : BothRead rules bundle) (r : DzyLength) → CheckBundle rules bundle r → r ≡ shown_length (Ok (length a.facts))
   unfolding CheckBundle read_bundle
   all_counted a r p =
       let b = over_given (facts_of bundle) (check_bundle a.head bundle) a.bundle_read in
       let many : b.value.count ≡ length a.facts = sym (accepted_count a.head bundle b.value b.given) ∙ ap length b.told in
-      p ∙ ap (λ (o : Answer Inputs). shown_length (over_answer (λ i. i.facts.count) o)) (opened a.head b.value a.rules_read b.given) ∙ ap (λ (n : ℕ). shown_length (gives n)) many
+      p ∙ ap (λ (o : Answer Inputs). shown_length (over_answer (λ i. i.facts.count) o)) (opened a.head b.value a.rules_read b.given) ∙ ap (λ (n : ℕ). shown_length (Ok n)) many
 
   pub over_limits : OverLimits rules bundle
   over_limits = record { too_many = too_many; few_rules = few_rules; lawful_facts = lawful_facts; read = both_read; counted = all_counted }

@@ -5,12 +5,11 @@ use mathlib.Core.List.{List, [], ◌∷◌, ◌++◌, map}
 use lib.ListN.{length, take, replicate}
 use native.Mathlib.Omega.{arith}
 use Rattle.number.specs.Answer.{Answer}
-use Rattle.number.specs.Answer.Answer.{gives}
+use Rattle.std.specs.Prelude.{Option, Some, None, Ok}
 use Rattle.number.proofs.Answers.{over_given}
 use Rattle.site.specs.declared.fact.Fact.{Fact}
 use Rattle.bundle.specs.Bundle.{facts_of, check_bundle, read_bundle}
-use Rattle.records.specs.Reading.{Found, reader_step, yields_from}
-use Rattle.records.specs.Reading.Found.{fact, done}
+use Rattle.records.specs.Reading.{reader_step, yields_from}
 use Rattle.records.proofs.OfReader.{yielded, starts, yields_all}
 use Rattle.rows.specs.declared.reader.Reader.{Reader}
 use Rattle.shown.specs.Shown.{shown_found, shown_start, shown_yield}
@@ -26,7 +25,7 @@ unfolding yields_from
 fewer_steps bytes zero k at few = refl
 fewer_steps bytes (suc n) zero at few = absurd (omega arith)
 fewer_steps bytes (suc n) (suc k) at few =
-    ap (λ (l : List (Answer Found)). (reader_step bytes at).yields ∷ l) (fewer_steps bytes n k (reader_step bytes at).next (omega arith))
+    ap (λ (l : List (Answer (Option Fact))). (reader_step bytes at).yields ∷ l) (fewer_steps bytes n k (reader_step bytes at).next (omega arith))
 
 take_map : {A B : Type 0} (f : A → B) (n : ℕ) (l : List A) → map f (take n l) ≡ take n (map f l)
 take_map f zero l = refl
@@ -44,13 +43,13 @@ walked_yields (step {here = here} {next = next} {y = y} {ys = ys} p rest) bytes 
     ap (λ (z : DzyYield). z ∷ ys) is_y ∙ ap (λ (l : List DzyYield). shown_yield (reader_step bytes at).yields ∷ l) more
 
 -- the facts, and then that it is done, as C sees them
-dones_shown : (k : ℕ) → map shown_yield (replicate k (gives done)) ≡ replicate k (shown_found done)
+dones_shown : (k : ℕ) → map shown_yield (replicate k (Ok None)) ≡ replicate k (shown_found None)
 dones_shown zero = refl
-dones_shown (suc k) = ap (λ (l : List DzyYield). shown_found done ∷ l) (dones_shown k)
+dones_shown (suc k) = ap (λ (l : List DzyYield). shown_found None ∷ l) (dones_shown k)
 
-all_shown : (facts : List Fact) (k : ℕ) → map shown_yield (map yielded facts ++ replicate k (gives done)) ≡ map (λ f. shown_found (fact f)) facts ++ replicate k (shown_found done)
+all_shown : (facts : List Fact) (k : ℕ) → map shown_yield (map yielded facts ++ replicate k (Ok None)) ≡ map (λ f. shown_found (Some f)) facts ++ replicate k (shown_found None)
 all_shown [] k = dones_shown k
-all_shown (f ∷ fs) k = ap (λ (l : List DzyYield). shown_found (fact f) ∷ l) (all_shown fs k)
+all_shown (f ∷ fs) k = ap (λ (l : List DzyYield). shown_found (Some f) ∷ l) (all_shown fs k)
 
 -- so many steps on an accepted bundle
 module _ {rules bundle : List ℕ} (a : BothRead rules bundle) (r : DzyStart) (p : ReaderStart rules bundle r) where
@@ -62,7 +61,7 @@ module _ {rules bundle : List ℕ} (a : BothRead rules bundle) (r : DzyStart) (p
       let all = yields_all rules bundle a.head b.value a.rules_read b.given n in
       ap (λ (k : ℕ). map shown_yield (yields_from bundle n k)) start
       ∙ ap (map shown_yield) (fewer_steps bundle n (b.value.count + n) b.value.start (omega arith) ∙ ap (take n) all)
-      ∙ take_map shown_yield n (map yielded (facts_of bundle b.value) ++ replicate n (gives done))
+      ∙ take_map shown_yield n (map yielded (facts_of bundle b.value) ++ replicate n (Ok None))
       ∙ ap (take n) (all_shown (facts_of bundle b.value) n ∙ ap (λ (facts : List Fact). yields facts n) b.told)
 
 pub reader_yields : ReaderYields

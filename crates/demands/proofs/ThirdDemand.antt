@@ -10,7 +10,7 @@ use lib.ListN.{length, get_or, take}
 use native.Mathlib.Omega.{arith}
 use borrow.Author.Tests.{ltb-true, lt-ltb}
 use Rattle.number.specs.Answer.{over}
-use Rattle.number.specs.Answer.Answer.{gives}
+use Rattle.std.specs.Prelude.{Some, None, Ok}
 use Rattle.number.proofs.Laid.{laid_taken}
 use Rattle.number.proofs.Answers.{over_given}
 use Rattle.site.specs.Codes.{concept_of, role_of}
@@ -21,7 +21,6 @@ use Rattle.steps.specs.Tables.{Follows, follows_of}
 use Rattle.clashes.specs.Types.{itself, Typ}
 use Rattle.clashes.specs.Marks.{mark, partner, kept, support}
 use Rattle.clean.specs.Operations.{reply_of}
-use Rattle.clean.specs.Operations.Reply.{yes_by, none}
 use Rattle.operations.proofs.OfKeptAgain.{kept_reads}
 use Rattle.worlds.specs.Worlds.{World, Is, Joins as Joined, Consistent, Always}
 use Rattle.worlds.specs.Demand3.{SiteDecided}
@@ -38,7 +37,7 @@ use Rattle.demands.proofs.BySteps.{get_or_any, those_once, kept_those}
 use Rattle.demands.proofs.Computed.{tables, decided, ask_is, has_is, joins_is, mark_is, partner_is, write_kept_is}
 
 -- yes is seen exactly if some kept fact supports the question
-yes_seen : (b : Bool) (n : ℕ) → ((shown_reply (cond b (yes_by n) none)).yes ≡ 1) ↔ (b ≡ true)
+yes_seen : (b : Bool) (n : ℕ) → ((shown_reply (cond b (Some n) None)).yes ≡ 1) ↔ (b ≡ true)
 yes_seen true n = (λ e. refl, λ e. refl)
 yes_seen false n = (λ e. let z : ◌≡◌ {A = ℕ} 0 1 = e in absurd (omega arith), λ e. let z : ◌≡◌ {A = ℕ} 0 1 = cc in absurd (omega arith))
 
@@ -47,7 +46,7 @@ unfolding reply_of
 reply_seen t facts asked r e =
     let n : ℕ = support itself t facts asked in
     let s = yes_seen (ltb n (length facts)) n in
-    let same : r.yes ≡ (shown_reply (cond (ltb n (length facts)) (yes_by n) none)).yes = ap (λ (x : DzyAnswer). x.yes) e in
+    let same : r.yes ≡ (shown_reply (cond (ltb n (length facts)) (Some n) None)).yes = ap (λ (x : DzyAnswer). x.yes) e in
     (λ h. ltb-true n (length facts) (s.0 (sym same ∙ h)), λ h. same ∙ s.1 (lt-ltb n (length facts) h))
 
 through : {A B : Type 0} {C : Type 1} → A ↔ B → B ↔ C → A ↔ C
@@ -95,21 +94,21 @@ module _ {rules bundle : List ℕ} (a : BothRead rules bundle) where
       (through (reply_seen (tables a) a.facts _ r q.seen) (worlds.of_pair code from to q.known q.from_within q.to_within))
 
   -- ---- the kept facts: the bundle that was read, as facts from a place on
-  kept_read : read_bundle a.head (bundle_of (kept itself (tables a) a.facts)) ≡ gives (kept itself (tables a) a.facts)
+  kept_read : read_bundle a.head (bundle_of (kept itself (tables a) a.facts)) ≡ Ok (kept itself (tables a) a.facts)
   unfolding read_bundle
   kept_read =
       let b = over_given (facts_of bundle) (check_bundle a.head bundle) a.bundle_read in
-      subst (λ (facts : List Fact). over (facts_of (bundle_of (kept itself (follows_of (site a)) facts))) (check_bundle a.head (bundle_of (kept itself (follows_of (site a)) facts))) ≡ gives (kept itself (follows_of (site a)) facts))
+      subst (λ (facts : List Fact). over (facts_of (bundle_of (kept itself (follows_of (site a)) facts))) (check_bundle a.head (bundle_of (kept itself (follows_of (site a)) facts))) ≡ Ok (kept itself (follows_of (site a)) facts))
       b.told (kept_reads rules bundle a.head b.value a.rules_read b.given)
 
   kept_written : (out out' : List ℕ) (r : DzyLength) → WriteKept rules bundle out r out' → Done r.refused
-      → (facts : List Fact) → KeptFacts a facts → read_bundle a.head (take r.length out') ≡ gives facts
+      → (facts : List Fact) → KeptFacts a facts → read_bundle a.head (take r.length out') ≡ Ok facts
   kept_written out out' r p done facts are =
       let bytes : List ℕ = bundle_of (kept itself (tables a) a.facts) in
       let w = write_kept_is a out out' r p done in
       let long : r.length ≡ length bytes = ap (λ (l : DzyLength). l.length) w.answer in
       let front : take r.length out' ≡ bytes = ap (λ (n : ℕ). take n out') long ∙ ap (take (length bytes)) w.memory ∙ laid_taken out bytes w.fits in
-      ap (read_bundle a.head) front ∙ kept_read ∙ ap gives (same_kept facts are)
+      ap (read_bundle a.head) front ∙ kept_read ∙ ap Ok (same_kept facts are)
 
   pub worlds_decide : WorldsDecide a
   worlds_decide =

@@ -1,10 +1,11 @@
 -- The three demands of the customer's order, whole, in the customer's words and order, about what C sees: the numbers that a call returns and the
 -- memory that was lent to it. Whoever reads this page and the definitions that it names knows what is promised; `the_demands` proves it.
-use Rattle.std.specs.Prelude.{ℕ, ◌+◌, ◌≤◌, ◌<◌, ◌≡◌, true, false, ◌↔◌, ◌⊎◌, List, [], ◌∷◌, ◌++◌, map, length, get_or, take, replicate}
-use Rattle.number.specs.Answer.{Read, refusal, laid}
-use Rattle.number.specs.Answer.Answer.{gives, refuses}
+use Rattle.std.specs.Prelude.{ℕ, ◌+◌, ◌≤◌, ◌<◌, ◌≡◌, true, false, ◌↔◌, ◌⊎◌, List, [], ◌∷◌, ◌++◌, map, length, get_or, take, replicate, Some, None, Ok, Err}
+use Rattle.number.specs.Answer.{fault_of, refusal, laid}
 use Rattle.number.specs.Number.{number_at}
 use Rattle.number.specs.declared.refusal.Refusal.{Refusal}
+use Rattle.number.specs.declared.read.Read.{Read}
+use Rattle.number.specs.declared.refusal.Side.TheVariants.{Bundle, Call}
 use Rattle.site.specs.Codes.{concept_of, role_of, concept_declared, role_declared}
 use Rattle.site.specs.Kinds.{Site}
 use Rattle.site.specs.Kinds.Node.{concept, role}
@@ -17,7 +18,6 @@ use Rattle.bundle.specs.Bundle.{read_bundle, bundle_of}
 use Rattle.bundle.specs.Faults.{BundleFault}
 use Rattle.bundle.specs.Lawful.{LawfulFacts}
 use Rattle.bundle.specs.Opened.{opening}
-use Rattle.records.specs.Reading.Found.{fact, done}
 use Rattle.records.specs.Rows.{fact_of}
 use Rattle.records.specs.declared.record.Record.{Record}
 use Rattle.rows.specs.declared.reader.Reader.{Reader}
@@ -47,8 +47,8 @@ Refused x = 1 ≤ x.number
 pub record BothRead (rules bundle : List ℕ) : Type 0 where
   pub head : Head
   pub facts : List Fact
-  pub rules_read : check_rules rules ≡ gives head
-  pub bundle_read : read_bundle head bundle ≡ gives facts
+  pub rules_read : check_rules rules ≡ Ok head
+  pub bundle_read : read_bundle head bundle ≡ Ok facts
 
 -- the rules that were read
 abbrev pub site : {rules bundle : List ℕ} → BothRead rules bundle → Site
@@ -103,27 +103,27 @@ module _ (rules bundle : List ℕ) where
   -- "Demand 1 reads with the longer answer": a refusal of files is about "the number of the item there (rule or fact; 65,535 in the header and after
   -- the last item)"
   abbrev pub ItemThere : Refusal → Type 0
-  ItemThere q = RulesFault rules q ⊎ ((h : Head) × (check_rules rules ≡ gives h) × BundleFault h bundle q)
+  ItemThere q = RulesFault rules q ⊎ ((h : Head) × (check_rules rules ≡ Ok h) × BundleFault h bundle q)
 
   -- both files are read, or there is one refusal of them, about the item there
   abbrev pub ReadOrRefused : Type 0
-  ReadOrRefused = BothRead rules bundle ⊎ ((q : Refusal) × (opening rules bundle ≡ refuses q) × RefusesFiles q × ItemThere q)
+  ReadOrRefused = BothRead rules bundle ⊎ ((q : Refusal) × (opening rules bundle ≡ Err q) × RefusesFiles q × ItemThere q)
 
   -- "A bundle over a limit is refused and never shortened. Reason: support has to know that it holds all of it."
   pub record OverLimits : Type 0 where
     -- more facts than a bundle holds: 4, at the count
-    pub too_many : (h : Head) (n : Read ℕ) (r : DzyLength) → check_rules rules ≡ gives h → number_at bundle 0 most_number 1 ≡ gives n → most_facts < n.value
-        → CheckBundle rules bundle r → r.refused ≡ refused (refusal 4 1 0)
+    pub too_many : (h : Head) (n : Read ℕ) (r : DzyLength) → check_rules rules ≡ Ok h → number_at bundle 0 most_number Bundle ≡ Ok n → most_facts < n.value
+        → CheckBundle rules bundle r → r.refused ≡ refused (refusal (fault_of 4) Bundle 0)
     -- what is accepted is within every limit
     pub few_rules : (a : BothRead rules bundle) → (a.head.concepts ≤ most_concepts) × (a.head.roles ≤ most_roles) × (a.head.rules ≤ most_rules)
     pub lawful_facts : (a : BothRead rules bundle) → LawfulFacts a.head a.facts
     -- and is there whole: an answer is given exactly of files that were read, and it counts every fact
     pub read : (r : DzyLength) → CheckBundle rules bundle r → Done r.refused → BothRead rules bundle
-    pub counted : (a : BothRead rules bundle) (r : DzyLength) → CheckBundle rules bundle r → r ≡ shown_length (gives (length a.facts))
+    pub counted : (a : BothRead rules bundle) (r : DzyLength) → CheckBundle rules bundle r → r ≡ shown_length (Ok (length a.facts))
 
 -- refused by this number, for the call's own arguments or for room: side 2, place 0, about no item
 abbrev pub By : ℕ → DzyRefusal → Type 0
-By number x = x ≡ refused (refusal number 2 0)
+By number x = x ≡ refused (refusal (fault_of number) Call 0)
 
 -- "refuses by number and place under the table in document 01": of files that were read, by arguments and room alone, and each refusal exactly then
 module _ {rules bundle : List ℕ} (a : BothRead rules bundle) where
@@ -187,7 +187,7 @@ module _ {rules bundle : List ℕ} (a : BothRead rules bundle) where
         → AnswerIs itself (site a) a.facts (typ (role (role_of code)) from to) r.yes r.fact
     -- "Writing the kept facts gives their bundle and its length"
     pub write_kept : (out out' : List ℕ) (r : DzyLength) → WriteKept rules bundle out r out' → Done r.refused
-        → (facts : List Fact) → KeptFacts a facts → (r ≡ shown_length (gives (length (bundle_of facts)))) × (out' ≡ laid out 0 (gives (bundle_of facts)))
+        → (facts : List Fact) → KeptFacts a facts → (r ≡ shown_length (Ok (length (bundle_of facts)))) × (out' ≡ laid out 0 (Ok (bundle_of facts)))
 
 -- every element is a byte, as all that C lends as bytes is
 abbrev pub Bytes : List ℕ → Type 0
@@ -196,20 +196,20 @@ Bytes s = (i : ℕ) → get_or s i 0 < 256
 -- "Within the limits, each ascending list of declared facts has one bundle: written facts read back the same, and an accepted bundle writes back to
 -- the same bytes. Reason: two offices compare bundles by their bytes."
 pub record RoundTrips : Type 0 where
-  pub written_read : (h : Head) → h.roles ≤ most_roles → (facts : List Fact) → LawfulFacts h facts → read_bundle h (bundle_of facts) ≡ gives facts
-  pub read_written : (s : List ℕ) → Bytes s → (h : Head) (facts : List Fact) → read_bundle h s ≡ gives facts → s ≡ bundle_of facts
+  pub written_read : (h : Head) → h.roles ≤ most_roles → (facts : List Fact) → LawfulFacts h facts → read_bundle h (bundle_of facts) ≡ Ok facts
+  pub read_written : (s : List ℕ) → Bytes s → (h : Head) (facts : List Fact) → read_bundle h s ≡ Ok facts → s ≡ bundle_of facts
   -- each such list, handed in as records, is written as its bundle
-  pub list_written : (rules : List ℕ) (h : Head) → check_rules rules ≡ gives h → (row : List Record) → LawfulFacts h (map fact_of row)
+  pub list_written : (rules : List ℕ) (h : Head) → check_rules rules ≡ Ok h → (row : List Record) → LawfulFacts h (map fact_of row)
       → (out out' : List ℕ) (w : DzyLength) → WriteRecords rules row out w out' → length (bundle_of (map fact_of row)) ≤ length out
-      → (w ≡ shown_length (gives (length (bundle_of (map fact_of row))))) × (out' ≡ laid out 0 (gives (bundle_of (map fact_of row))))
+      → (w ≡ shown_length (Ok (length (bundle_of (map fact_of row))))) × (out' ≡ laid out 0 (Ok (bundle_of (map fact_of row))))
   -- records that were handed out are written back as the same bundle
   pub records_back : (rules bundle : List ℕ) → Bytes bundle → (row row' : List Record) (r : DzyLength) → Records rules bundle row r row' → Done r.refused
       → (out out' : List ℕ) (w : DzyLength) → WriteRecords rules (take r.length row') out w out' → length bundle ≤ length out
-      → (w ≡ shown_length (gives (length bundle))) × (out' ≡ laid out 0 (gives bundle))
+      → (w ≡ shown_length (Ok (length bundle))) × (out' ≡ laid out 0 (Ok bundle))
   -- a row that was written is handed out as itself
   pub rows_back : (rules : List ℕ) (row : List Record) (out out' : List ℕ) (w : DzyLength) → WriteRecords rules row out w out' → Done w.refused
       → (lent lent' : List Record) (r : DzyLength) → Records rules (take w.length out') lent r lent' → length row ≤ length lent
-      → (r ≡ shown_length (gives (length row))) × (lent' ≡ laid lent 0 (gives row))
+      → (r ≡ shown_length (Ok (length row))) × (lent' ≡ laid lent 0 (Ok row))
 
 -- so many steps of a reader, each as its promise says: what they yield, and the reader afterwards
 pub data Walked : Reader → List DzyYield → Reader → Type 0 where
@@ -218,7 +218,7 @@ pub data Walked : Reader → List DzyYield → Reader → Type 0 where
 
 -- what a reader of these facts yields: them, "in order", and then so often that it is done
 abbrev pub yields : List Fact → ℕ → List DzyYield
-yields facts more = map (λ f. shown_found (fact f)) facts ++ replicate more (shown_found done)
+yields facts more = map (λ f. shown_found (Some f)) facts ++ replicate more (shown_found None)
 
 -- document 01: "It starts on an accepted bundle and yields its facts, in order", however many steps are made
 pub record ReaderYields : Type 0 where
@@ -246,7 +246,7 @@ module _ {rules bundle : List ℕ} (a : BothRead rules bundle) where
     pub kept : (facts : List Fact) → KeptFacts a facts → Consistent itself (site a) facts
     pub kept_are : (facts : List Fact) × KeptFacts a facts
     pub write_kept : (out out' : List ℕ) (r : DzyLength) → WriteKept rules bundle out r out' → Done r.refused
-        → (facts : List Fact) → KeptFacts a facts → read_bundle a.head (take r.length out') ≡ gives facts
+        → (facts : List Fact) → KeptFacts a facts → read_bundle a.head (take r.length out') ≡ Ok facts
     -- "and a question is answered yes exactly if it holds in every world of the rules and the kept facts"
     pub has : (code thing : ℕ) (r : DzyAnswer) → Has rules bundle code thing r → Done r.refused
         → (facts : List Fact) → KeptFacts a facts → (r.yes ≡ 1) ↔ Always itself (site a) facts (λ w. Is w (concept_of code) (w.thing thing))

@@ -1,2 +1,0 @@
-pub mod OfFace
-pub mod OfRecords

@@ -1,47 +1,27 @@
 // The library's face: every public operation, without any demand on the caller. The crate `dzyunagor_c` exports each of them to C.
-#![tactic(auto)]
+#![tactic(auto, unfolding(crate::specs::Promises::CheckRules, crate::specs::Promises::CheckBundle, crate::specs::Promises::Count, crate::specs::Promises::Ask, crate::specs::Promises::Has, crate::specs::Promises::Joins, crate::specs::Promises::ReaderStart))]
 
 ghost use Rattle.dzyunagor.specs.Promises.{CheckRules, CheckBundle, Mark, Count, Ask, Has, Joins, WriteKept, Records, WriteRecords, ReaderStart, ReaderNext};
 
-use bundle::Opened;
 use records::Record;
 use rows::Reader;
-use rules::RulesRead;
 use shown::{
-    DzyAnswer, DzyAsked, DzyCounts, DzyLength, DzyStart, DzyYield, is_refused, not_refused,
-    show_answer, show_asked, show_counts, show_length, show_row, show_start, show_yield,
+    DzyAnswer, DzyAsked, DzyCounts, DzyLength, DzyStart, DzyYield, show_answer, show_asked,
+    show_counts, show_length, show_start, show_yield,
 };
 
 // How many rules an accepted rule file has.
 pub fn dzy_check_rules(rules: &[u8]) -> DzyLength
     ensures { CheckRules rules.now result }
 {
-    match rules::check_rules(rules) {
-        RulesRead::Accepted(head) => DzyLength {
-            refused: not_refused(),
-            length: head.rules as u64,
-        },
-        RulesRead::Refused(r) => DzyLength {
-            refused: is_refused(r),
-            length: 0,
-        },
-    }
+    show_length(rules::check_rules(rules).map(|head| head.rules as usize))
 }
 
 // How many facts an accepted bundle has, under accepted rules.
 pub fn dzy_check_bundle(rules: &[u8], bundle: &[u8]) -> DzyLength
     ensures { CheckBundle rules.now bundle.now result }
 {
-    match bundle::open_inputs(rules, bundle) {
-        Opened::Accepted(inputs) => DzyLength {
-            refused: not_refused(),
-            length: inputs.facts.count as u64,
-        },
-        Opened::Refused(r) => DzyLength {
-            refused: is_refused(r),
-            length: 0,
-        },
-    }
+    show_length(bundle::open_inputs(rules, bundle).map(|inputs| inputs.facts.count as usize))
 }
 
 // The marks and partners of a bundle's facts, into lent rows, and their counts.
@@ -90,14 +70,14 @@ pub fn dzy_write_kept(rules: &[u8], bundle: &[u8], out: &mut [u8]) -> DzyLength
 pub fn dzy_records(rules: &[u8], bundle: &[u8], row: &mut [Record]) -> DzyLength
     ensures { Records rules.now bundle.now row.old result row.new }
 {
-    show_row(rows::hand_records(rules, bundle, row))
+    show_length(rows::hand_records(rules, bundle, row))
 }
 
 // A row of records as a bundle, into a lent output, and its length.
 pub fn dzy_write_records(rules: &[u8], row: &[Record], out: &mut [u8]) -> DzyLength
     ensures { WriteRecords rules.now row.now out.old result out.new }
 {
-    show_row(rows::write_records(rules, row, out))
+    show_length(rows::write_records(rules, row, out))
 }
 
 // Where a reader of an accepted bundle starts; its caller puts it together from the bundle and this place.

@@ -1,4 +1,3 @@
 pub mod Lowers
 pub mod Mirroring
 pub mod Taking
-pub mod WordBits

@@ -1,5 +1,5 @@
 // Exclusions in a table: the written ones go down both sides, and what leads to an empty node is empty.
-#![tactic(auto)]
+#![tactic(auto, using(crate::proofs::Lowers::lowers))]
 
 mod spread;
 

@@ -15,9 +15,9 @@ use Rattle.site.specs.Kinds.BasicRole.{forward, inverse}
 use Rattle.site.specs.Kinds.BasicConcept.{some}
 use Rattle.site.specs.Kinds.Node.{concept, role}
 use Rattle.site.specs.Kinds.Rule.{included, disjoint, role_included, role_disjoint, functional}
-use Rattle.site.specs.Codes.{role_of, role_code, concept_of, node_code}
+use Rattle.site.specs.Codes.{role_of, role_code, node_code}
 use Rattle.site.specs.Lists.{up_to, each}
-use Rattle.site.specs.Told.{rule_told}
+use Rattle.site.specs.Told.{basic_role_told, basic_concept_told, rule_told}
 use Rattle.site.specs.declared.nodes.Role.{Role}
 use Rattle.site.specs.declared.nodes.BasicRole.{BasicRole as RoleCode}
 use Rattle.site.specs.declared.nodes.BasicConcept.{BasicConcept as ConceptCode}
@@ -26,20 +26,21 @@ use Rattle.site.specs.declared.rule.Rule.TheVariants.{Included, Disjoint, RoleIn
 use Rattle.site.proofs.OfCodes.{role_code_lem}
 use Rattle.site.proofs.Lists.{or_cases, or_left, or_right}
 use Rattle.steps.specs.Tables.{Pair, arrows_of}
-use Rattle.tables.specs.Bits.{bit_of, Has, IsTable, Added, CameAdded}
+use Rattle.tables.specs.Bits.{bit_of, Has, Added, CameAdded}
 use Rattle.tables.specs.Bits.CameAdded.{old_one, new_one}
 use Rattle.tables.proofs.Words.{bit_or_lem, bit_same, bit_other}
-use Rattle.follows.specs.Adding.{CamePair, AddedAll, role_arrows, some_arrows, in_both_orders, exclusions_of, ring, rings, RingsTo, CameFunctional, FunctionalAdded}
+use Rattle.follows.specs.Adding.{CamePair, AddedAll, role_arrows, some_arrows, in_both_orders, exclusions_of, ring, rings, CameFunctional, FunctionalAdded}
 use Rattle.follows.specs.Adding.CamePair.{at_once, of_pair}
 use Rattle.follows.specs.Adding.CameFunctional.{at_once as was, of_rule}
+use Rattle.follows.proofs.Numbers.{role_of_code}
 
 -- no pair, one more pair, more pairs
-pub added_none : (t : List ℕ) → IsTable t → AddedAll [] t t
-added_none t l = record { table = l; stays = λ u v h. h; comes = λ a m. absurd (Memᴰ.not-nil m); came = λ u v h. at_once h }
+pub added_none : (t : List ℕ) → AddedAll [] t t
+added_none t = record { stays = λ u v h. h; comes = λ a m. absurd (Memᴰ.not-nil m); came = λ u v h. at_once h }
 
 pub added_one : (a : Pair) (l : List Pair) (old mid new : List ℕ) (x y : ℕ) → Added old mid x y → x ≡ node_code a.left → y ≡ node_code a.right → AddedAll l mid new → AddedAll (a ∷ l) old new
 added_one a l old mid new x y p e f q =
-    record { table = q.table; stays = λ u v h. q.stays u v (p.stays u v h); comes = comes_of; came = λ u v h. back u v (q.came u v h) }
+    record { stays = λ u v h. q.stays u v (p.stays u v h); comes = comes_of; came = λ u v h. back u v (q.came u v h) }
   where
     there : node_code a.left < 192 → node_code a.right < 192 → Has new (node_code a.left) (node_code a.right)
     there h k = q.stays _ _ (subst (λ z. Has mid z (node_code a.right)) e (subst (λ z. Has mid x z) f (p.comes (omega arith) (omega arith))))
@@ -59,7 +60,7 @@ added_one a l old mid new x y p e f q =
 
 pub added_more : (k l : List Pair) (old mid new : List ℕ) → AddedAll k old mid → AddedAll l mid new → AddedAll (k ++ l) old new
 added_more k l old mid new p q =
-    record { table = q.table; stays = λ u v h. q.stays u v (p.stays u v h); comes = λ a m. comes_of a (Memᴰ.append_cases k m); came = λ u v h. back u v (q.came u v h) }
+    record { stays = λ u v h. q.stays u v (p.stays u v h); comes = λ a m. comes_of a (Memᴰ.append_cases k m); came = λ u v h. back u v (q.came u v h) }
   where
     comes_of : (a : Pair) → Memᴰ a k ⊎ Memᴰ a l → node_code a.left < 192 → node_code a.right < 192 → Has new (node_code a.left) (node_code a.right)
     comes_of a (inl m) h i = q.stays _ _ (p.comes a m h i)
@@ -76,50 +77,50 @@ added_more k l old mid new p q =
 -- one pair alone, two and four
 module _ (a : Pair) (t₀ t₁ : List ℕ) (x y : ℕ) (p : Added t₀ t₁ x y) (e : x ≡ node_code a.left) (f : y ≡ node_code a.right) where
   added_last : AddedAll (a ∷ []) t₀ t₁
-  added_last = added_one a [] t₀ t₁ t₁ x y p e f (added_none t₁ p.table)
+  added_last = added_one a [] t₀ t₁ t₁ x y p e f (added_none t₁)
 
   module _ (b : Pair) (t₂ : List ℕ) (z w : ℕ) (q : Added t₁ t₂ z w) (g : z ≡ node_code b.left) (h : w ≡ node_code b.right) where
     added_two : AddedAll (a ∷ b ∷ []) t₀ t₂
-    added_two = added_one a (b ∷ []) t₀ t₁ t₂ x y p e f (added_one b [] t₁ t₂ t₂ z w q g h (added_none t₂ q.table))
+    added_two = added_one a (b ∷ []) t₀ t₁ t₂ x y p e f (added_one b [] t₁ t₂ t₂ z w q g h (added_none t₂))
 
 -- the rules' arrows
 module _ (t₀ t₁ : List ℕ) where
-  pub arrows_included : (rule : RuleCase) (b c : ConceptCode) (x y : ℕ) → rule ≡ Included b c → x ≡ node_code (concept (concept_of b.code)) → y ≡ node_code (concept (concept_of c.code))
+  pub arrows_included : (rule : RuleCase) (b c : ConceptCode) (x y : ℕ) → rule ≡ Included b c → x ≡ node_code (concept (basic_concept_told b)) → y ≡ node_code (concept (basic_concept_told c))
       → Added t₀ t₁ x y → AddedAll (arrows_of (rule_told rule)) t₀ t₁
-  arrows_included rule b c x y z e f p = rw z (added_last (record { left = concept (concept_of b.code); right = concept (concept_of c.code) }) t₀ t₁ x y p e f)
+  arrows_included rule b c x y z e f p = rw z (added_last (record { left = concept (basic_concept_told b); right = concept (basic_concept_told c) }) t₀ t₁ x y p e f)
 
-  pub arrows_role : (rule : RuleCase) (p q : RoleCode) → rule ≡ RoleIncluded p q → AddedAll (arrows_of (role_included (role_of p.code) (role_of q.code))) t₀ t₁ → AddedAll (arrows_of (rule_told rule)) t₀ t₁
+  pub arrows_role : (rule : RuleCase) (p q : RoleCode) → rule ≡ RoleIncluded p q → AddedAll (arrows_of (role_included (basic_role_told p) (basic_role_told q))) t₀ t₁ → AddedAll (arrows_of (rule_told rule)) t₀ t₁
   arrows_role rule p q z h = rw z h
 
   pub exclusions_disjoint : (rule : RuleCase) (b c : ConceptCode) → rule ≡ Disjoint b c
-      → AddedAll (in_both_orders (record { left = concept (concept_of b.code); right = concept (concept_of c.code) })) t₀ t₁ → AddedAll (exclusions_of (rule_told rule)) t₀ t₁
+      → AddedAll (in_both_orders (record { left = concept (basic_concept_told b); right = concept (basic_concept_told c) })) t₀ t₁ → AddedAll (exclusions_of (rule_told rule)) t₀ t₁
   unfolding each
   exclusions_disjoint rule b c z h = rw z h
 
-  pub exclusions_role : (rule : RuleCase) (p q : RoleCode) → rule ≡ RoleDisjoint p q → AddedAll (exclusions_of (role_disjoint (role_of p.code) (role_of q.code))) t₀ t₁ → AddedAll (exclusions_of (rule_told rule)) t₀ t₁
+  pub exclusions_role : (rule : RuleCase) (p q : RoleCode) → rule ≡ RoleDisjoint p q → AddedAll (exclusions_of (role_disjoint (basic_role_told p) (basic_role_told q))) t₀ t₁ → AddedAll (exclusions_of (rule_told rule)) t₀ t₁
   exclusions_role rule p q z h = rw z h
 
-module _ (t : List ℕ) (l : IsTable t) (rule : RuleCase) where
+module _ (t : List ℕ) (rule : RuleCase) where
   pub no_arrows_1 : (b c : ConceptCode) → rule ≡ Disjoint b c → AddedAll (arrows_of (rule_told rule)) t t
-  no_arrows_1 b c z = rw z (added_none t l)
+  no_arrows_1 b c z = rw z (added_none t)
 
   pub no_arrows_3 : (p q : RoleCode) → rule ≡ RoleDisjoint p q → AddedAll (arrows_of (rule_told rule)) t t
-  no_arrows_3 p q z = rw z (added_none t l)
+  no_arrows_3 p q z = rw z (added_none t)
 
   pub no_arrows_4 : (q : RoleCode) → rule ≡ Functional q → AddedAll (arrows_of (rule_told rule)) t t
-  no_arrows_4 q z = rw z (added_none t l)
+  no_arrows_4 q z = rw z (added_none t)
 
   pub no_exclusions_0 : (b c : ConceptCode) → rule ≡ Included b c → AddedAll (exclusions_of (rule_told rule)) t t
   unfolding each
-  no_exclusions_0 b c z = rw z (added_none t l)
+  no_exclusions_0 b c z = rw z (added_none t)
 
   pub no_exclusions_2 : (p q : RoleCode) → rule ≡ RoleIncluded p q → AddedAll (exclusions_of (rule_told rule)) t t
   unfolding each
-  no_exclusions_2 p q z = rw z (added_none t l)
+  no_exclusions_2 p q z = rw z (added_none t)
 
   pub no_exclusions_4 : (q : RoleCode) → rule ≡ Functional q → AddedAll (exclusions_of (rule_told rule)) t t
   unfolding each
-  no_exclusions_4 q z = rw z (added_none t l)
+  no_exclusions_4 q z = rw z (added_none t)
 
 -- two nodes' numbers, where the node is known by another name
 pub in_both_orders_lem : (t₀ t₁ t₂ : List ℕ) (a b : Node) (x y z w : ℕ) → Added t₀ t₁ x y → x ≡ node_code a → y ≡ node_code b → Added t₁ t₂ z w → z ≡ node_code b → w ≡ node_code a
@@ -128,22 +129,22 @@ in_both_orders_lem t₀ t₁ t₂ a b x y z w p e f q g h =
     added_two (record { left = a; right = b }) t₀ t₁ x y p e f (record { left = b; right = a }) t₂ z w q g h
 
 -- the two arrows of roles, and the two of partners
-module _ (t₀ t₁ t₂ : List ℕ) (p q p' q' : RoleCode) (back_p : role_of p'.code ≡ turned (role_of p.code)) (back-q : role_of q'.code ≡ turned (role_of q.code)) (x y z w : ℕ)
+module _ (t₀ t₁ t₂ : List ℕ) (p q p' q' : RoleCode) (back_p : basic_role_told p' ≡ turned (basic_role_told p)) (back-q : basic_role_told q' ≡ turned (basic_role_told q)) (x y z w : ℕ)
     (a : Added t₀ t₁ x y) (b : Added t₁ t₂ z w) where
-  pub two_roles : x ≡ node_code (role (role_of p.code)) → y ≡ node_code (role (role_of q.code)) → z ≡ node_code (role (role_of p'.code)) → w ≡ node_code (role (role_of q'.code))
-      → AddedAll (role_arrows (role_of p.code) (role_of q.code)) t₀ t₂
+  pub two_roles : x ≡ node_code (role (basic_role_told p)) → y ≡ node_code (role (basic_role_told q)) → z ≡ node_code (role (basic_role_told p')) → w ≡ node_code (role (basic_role_told q'))
+      → AddedAll (role_arrows (basic_role_told p) (basic_role_told q)) t₀ t₂
   two_roles e f g h =
-      let u = role_of p.code in
-      let v = role_of q.code in
+      let u = basic_role_told p in
+      let v = basic_role_told q in
       added_two (record { left = role u; right = role v }) t₀ t₁ x y a e f (record { left = role (turned u); right = role (turned v) }) t₂ z w b
       (g ∙ ap (λ r. node_code (role r)) back_p)
       (h ∙ ap (λ r. node_code (role r)) back-q)
 
-  pub two_somes : x ≡ node_code (concept (some (role_of p.code))) → y ≡ node_code (concept (some (role_of q.code))) → z ≡ node_code (concept (some (role_of p'.code)))
-      → w ≡ node_code (concept (some (role_of q'.code))) → AddedAll (some_arrows (role_of p.code) (role_of q.code)) t₀ t₂
+  pub two_somes : x ≡ node_code (concept (some (basic_role_told p))) → y ≡ node_code (concept (some (basic_role_told q))) → z ≡ node_code (concept (some (basic_role_told p')))
+      → w ≡ node_code (concept (some (basic_role_told q'))) → AddedAll (some_arrows (basic_role_told p) (basic_role_told q)) t₀ t₂
   two_somes e f g h =
-      let u = role_of p.code in
-      let v = role_of q.code in
+      let u = basic_role_told p in
+      let v = basic_role_told q in
       added_two (record { left = concept (some u); right = concept (some v) }) t₀ t₁ x y a e f (record { left = concept (some (turned u)); right = concept (some (turned v)) }) t₂ z w b
       (g ∙ ap (λ r. node_code (concept (some r))) back_p)
       (h ∙ ap (λ r. node_code (concept (some r))) back-q)
@@ -181,19 +182,17 @@ rings_more : (j : ℕ) → rings (suc j) ≡ rings j ++ ring j
 unfolding rings up_to
 rings_more j = each_more ring (up_to j) j
 
-pub rings_start : (t : List ℕ) (roles : ℕ) → IsTable t → RingsTo 0 roles t t
+pub rings_start : (t : List ℕ) → AddedAll (rings 0) t t
 unfolding rings up_to each
-rings_start t roles l = record { within = omega arith; all = added_none t l }
+rings_start t = added_none t
 
-pub rings_on : (j roles : ℕ) (old t new : List ℕ) → RingsTo j roles old t → j < roles → AddedAll (ring j) t new → RingsTo (j + 1) roles old new
-rings_on j roles old t new p h q =
-    record { within = omega arith; all = rw (add-one, rings_more) (added_more (rings j) (ring j) old t new p.all q) }
+pub rings_on : (j : ℕ) (old t new : List ℕ) → AddedAll (rings j) old t → AddedAll (ring j) t new → AddedAll (rings (j + 1)) old new
+rings_on j old t new p q = rw (add-one, rings_more) (added_more (rings j) (ring j) old t new p q)
 
-pub rings_end : (j roles : ℕ) (old new : List ℕ) → RingsTo j roles old new → roles ≤ j → AddedAll (rings roles) old new
-rings_end j roles old new p h =
-    let k = p.within in
+pub rings_end : (j roles : ℕ) (old new : List ℕ) → AddedAll (rings j) old new → j ≤ roles → roles ≤ j → AddedAll (rings roles) old new
+rings_end j roles old new p h k =
     let e : j ≡ roles = omega arith in
-    subst (λ m. AddedAll (rings m) old new) e p.all
+    subst (λ m. AddedAll (rings m) old new) e p
 
 -- the functional roles
 same_code : (j k : ℕ) → functional (role_of j) ≡ functional (role_of k) → j ≡ k
@@ -202,11 +201,11 @@ same_code j k e =
     sym (role_code_lem j) ∙ ap role_code f ∙ role_code_lem k
 
 module _ (mask code : ℕ) where
-  pub functional_over : 64 ≤ code → FunctionalAdded (functional (role_of code)) mask mask
+  functional_over : 64 ≤ code → FunctionalAdded (functional (role_of code)) mask mask
   functional_over h =
       record { stays = λ k b. b; comes = λ k l e. let z = same_code code k e in absurd (omega arith); came = λ k b. was b }
 
-  pub functional_more : code < 64 → FunctionalAdded (functional (role_of code)) mask (bit_or mask ((1 * 2 ^ code) % 18446744073709551616))
+  functional_more : code < 64 → FunctionalAdded (functional (role_of code)) mask (bit_or mask ((1 * 2 ^ code) % 18446744073709551616))
   functional_more h = subst (λ m. FunctionalAdded (functional (role_of code)) mask (bit_or mask m)) (sym exact) known
     where
       exact : (1 * 2 ^ code) % 2 ^ 64 ≡ 1 * 2 ^ code
@@ -225,23 +224,34 @@ module _ (mask code : ℕ) where
             came = λ k b. back k (or_cases (bit_of mask k) (bit_of (1 * 2 ^ code) k) (sym (bit_or_lem mask (1 * 2 ^ code) k) ∙ b));
           }
 
+-- the same of a basic role by its code
+module _ (mask code : ℕ) (q : BasicRole) (is : code ≡ role_code q) where
+  by_code : role_of code ≡ q
+  by_code = ap role_of is ∙ role_of_code q
+
+  pub code_over : 64 ≤ code → FunctionalAdded (functional q) mask mask
+  code_over h = subst (λ p. FunctionalAdded (functional p) mask mask) by_code (functional_over mask code h)
+
+  pub code_more : code < 64 → FunctionalAdded (functional q) mask (bit_or mask ((1 * 2 ^ code) % 18446744073709551616))
+  code_more h = subst (λ p. FunctionalAdded (functional p) mask (bit_or mask ((1 * 2 ^ code) % 18446744073709551616))) by_code (functional_more mask code h)
+
 module _ (mask : ℕ) (rule : RuleCase) where
   not_functional : (r : Rule) → ((k : ℕ) → r ≡ functional (role_of k) → ⊥) → FunctionalAdded r mask mask
   not_functional r f = record { stays = λ k b. b; comes = λ k l e. absurd (f k e); came = λ k b. was b }
 
   pub functional_0 : (b c : ConceptCode) → rule ≡ Included b c → FunctionalAdded (rule_told rule) mask mask
-  functional_0 b c z = rw z (not_functional (included (concept_of b.code) (concept_of c.code)) λ k e. let w : ◌≡◌ {A = ℕ} 0 1 = cc in omega arith)
+  functional_0 b c z = rw z (not_functional (included (basic_concept_told b) (basic_concept_told c)) λ k e. let w : ◌≡◌ {A = ℕ} 0 1 = cc in omega arith)
 
   pub functional_1 : (b c : ConceptCode) → rule ≡ Disjoint b c → FunctionalAdded (rule_told rule) mask mask
-  functional_1 b c z = rw z (not_functional (disjoint (concept_of b.code) (concept_of c.code)) λ k e. let w : ◌≡◌ {A = ℕ} 0 1 = cc in omega arith)
+  functional_1 b c z = rw z (not_functional (disjoint (basic_concept_told b) (basic_concept_told c)) λ k e. let w : ◌≡◌ {A = ℕ} 0 1 = cc in omega arith)
 
   pub functional_2 : (p q : RoleCode) → rule ≡ RoleIncluded p q → FunctionalAdded (rule_told rule) mask mask
-  functional_2 p q z = rw z (not_functional (role_included (role_of p.code) (role_of q.code)) λ k e. let w : ◌≡◌ {A = ℕ} 0 1 = cc in omega arith)
+  functional_2 p q z = rw z (not_functional (role_included (basic_role_told p) (basic_role_told q)) λ k e. let w : ◌≡◌ {A = ℕ} 0 1 = cc in omega arith)
 
   pub functional_3 : (p q : RoleCode) → rule ≡ RoleDisjoint p q → FunctionalAdded (rule_told rule) mask mask
-  functional_3 p q z = rw z (not_functional (role_disjoint (role_of p.code) (role_of q.code)) λ k e. let w : ◌≡◌ {A = ℕ} 0 1 = cc in omega arith)
+  functional_3 p q z = rw z (not_functional (role_disjoint (basic_role_told p) (basic_role_told q)) λ k e. let w : ◌≡◌ {A = ℕ} 0 1 = cc in omega arith)
 
-  pub functional_4 : (q : RoleCode) (r : ℕ) → rule ≡ Functional q → FunctionalAdded (functional (role_of q.code)) mask r → FunctionalAdded (rule_told rule) mask r
+  pub functional_4 : (q : RoleCode) (r : ℕ) → rule ≡ Functional q → FunctionalAdded (functional (basic_role_told q)) mask r → FunctionalAdded (rule_told rule) mask r
   functional_4 q r z h = rw z h
 
-pub ruleset adds = (arrows_included, arrows_role, exclusions_disjoint, exclusions_role, no_arrows_1, no_arrows_3, no_arrows_4, no_exclusions_0, no_exclusions_2, no_exclusions_4, in_both_orders_lem, two_roles, two_somes, role_arrows_lem, role_exclusions, ring_of, rings_start, rings_on, rings_end, functional_over, functional_more, functional_0, functional_1, functional_2, functional_3, functional_4, rules)
+pub ruleset adds = (arrows_included, arrows_role, exclusions_disjoint, exclusions_role, no_arrows_1, no_arrows_3, no_arrows_4, no_exclusions_0, no_exclusions_2, no_exclusions_4, in_both_orders_lem, two_roles, two_somes, role_arrows_lem, role_exclusions, ring_of, rings_start, rings_on, rings_end, code_over, code_more, functional_0, functional_1, functional_2, functional_3, functional_4, rules)

@@ -1,52 +1,32 @@
--- One turn of each walk over the rules: what has been added so far, and the rules that are left, are all the rules.
-use Prim.Native.Nat.{ℕ, ◌-◌, ◌/◌, ◌^◌, ◌<◌, ◌≤◌}
+-- One turn of the walk over the rules: what has been added so far, and the rules that are left, are all the rules.
+use Prim.Native.Nat.{ℕ, ◌/◌, ◌^◌, ◌<◌}
 use native.Mathlib.Nat.{div-eq_of_lt}
 use lib.Pow.{pow_pos}
-use mathlib.Core.Path.{◌≡◌, refl, sym, ap, subst, ◌∙◌}
+use mathlib.Core.Path.{◌≡◌, refl, sym, subst, ◌∙◌}
 use mathlib.Core.Bool.{true, false, false≢true}
 use mathlib.Core.Logic.{◌⊎◌, inl, inr}
 use mathlib.Core.List.Memᴰ
 use mathlib.Core.List.{List, [], ◌∷◌, ◌++◌, append-nil, append_assoc, Memᴰ}
-use lib.ListN.{length, replicate, length-replicate}
-use borrow.Author.Rules.{rules}
-use Rattle.number.specs.declared.refusal.Refusal.{Refusal}
 use Rattle.site.specs.Kinds.{Rule}
 use Rattle.site.specs.Kinds.Rule.{functional}
 use Rattle.site.specs.Codes.{role_of}
 use Rattle.site.specs.Lists.{each}
-use Rattle.site.specs.Told.{rule_told}
-use Rattle.site.specs.declared.rule.Rule.{Rule as RuleCase}
-use Rattle.rule.specs.OneRule.{rule_at}
-use Rattle.rules.specs.RuleFile.{rules_in}
-use Rattle.rule.specs.Told.{rule_read_told}
-use Rattle.rule.specs.declared.head.Head.{Head}
-use Rattle.rule.specs.declared.read.RuleRead.{RuleRead}
-use Rattle.rule.specs.declared.read.RuleRead.TheVariants.{Read as RuleIs, Refused as RuleRefused}
-use Rattle.rules.proofs.Checking.{none_left, one_more, all_read}
 use Rattle.steps.specs.Tables.{Pair, arrows_of}
-use Rattle.tables.specs.Bits.{bit_of, IsTable}
+use Rattle.tables.specs.Bits.{bit_of}
 use Rattle.follows.specs.Adding.{AddedAll, exclusions_of, CameFunctional, FunctionalAdded}
 use Rattle.follows.specs.Adding.CameFunctional.{at_once, of_rule}
-use Rattle.follows.specs.Tells.{Blank, AddedSoFar, FunctionalOf, FunctionalSoFar}
+use Rattle.follows.specs.declared.filled.Tables.{Tables}
+use Rattle.follows.specs.Tells.{AddedSoFar, FunctionalOf, FunctionalSoFar}
 use Rattle.follows.proofs.Adds.{added_none, added_more, each_more}
-
--- an empty table is a table
-pub blank_table : (t : List ℕ) → Blank t → IsTable t
-unfolding IsTable
-blank_table t e = ap length e ∙ length-replicate {A = ℕ} 576 0
-
-pub zeros_table : IsTable (replicate 576 0)
-unfolding IsTable
-zeros_table = length-replicate {A = ℕ} 576 0
 
 split_on : {A : Type 0} (whole done : List A) (x : A) (rest : List A) → whole ≡ done ++ (x ∷ rest) → whole ≡ (done ++ (x ∷ [])) ++ rest
 split_on whole done x rest e = e ∙ sym (append_assoc done (x ∷ []) rest)
 
 -- pairs
 module _ (f : Rule → List Pair) where
-  so_far_start : (whole : List Rule) (t : List ℕ) → IsTable t → AddedSoFar f whole whole t t
+  pub so_far_start : (whole : List Rule) (t : List ℕ) → AddedSoFar f whole whole t t
   unfolding each
-  so_far_start whole t l = record { done = []; split = refl; all = added_none t l }
+  so_far_start whole t = record { done = []; split = refl; all = added_none t }
 
   so_far_on : (whole rest : List Rule) (rule : Rule) (old t new : List ℕ) → AddedSoFar f whole (rule ∷ rest) old t → AddedAll (f rule) t new → AddedSoFar f whole rest old new
   so_far_on whole rest rule old t new p q =
@@ -68,7 +48,7 @@ bit_of_none k =
     let e : 0 / 2 ^ k ≡ 0 = div-eq_of_lt (pow_pos k) in
     rw e
 
-functional_start : (whole : List Rule) → FunctionalSoFar whole whole 0
+pub functional_start : (whole : List Rule) → FunctionalSoFar whole whole 0
 functional_start whole =
     record {
       done = [];
@@ -97,57 +77,46 @@ functional_end whole word p =
     let e : whole ≡ p.done = p.split ∙ append-nil p.done in
     subst (λ l. FunctionalOf l word) (sym e) p.all
 
--- the turns of the three walks
-module _ (h : Head) (s : List ℕ) where
-  abbrev all : List Rule
-  all = rules_in h s h.rules h.start
+-- a turn of the walk, and its end
+module _ (whole rest : List Rule) where
+  module _ (rule : Rule) (rest' : List Rule) (one : rest ≡ rule ∷ rest') where
+    pub pairs_on : (f : Rule → List Pair) (old t new : List ℕ) → AddedSoFar f whole rest old t → AddedAll (f rule) t new → AddedSoFar f whole rest' old new
+    pairs_on f old t new p q = so_far_on f whole rest' rule old t new (subst (λ l. AddedSoFar f whole l old t) one p) q
 
-  pub arrows_start : (t : List ℕ) → IsTable t → AddedSoFar arrows_of all (rules_in h s h.rules h.start) t t
-  arrows_start t l = so_far_start arrows_of all t l
+    pub functionals_on : (word new : ℕ) → FunctionalSoFar whole rest word → FunctionalAdded rule word new → FunctionalSoFar whole rest' new
+    functionals_on word new p q = functional_on whole rest' rule word new (subst (λ l. FunctionalSoFar whole l word) one p) q
 
-  pub exclusions_start : (t : List ℕ) → IsTable t → AddedSoFar exclusions_of all (rules_in h s h.rules h.start) t t
-  exclusions_start t l = so_far_start exclusions_of all t l
+  module _ (none : rest ≡ []) where
+    pub pairs_end : (f : Rule → List Pair) (old new : List ℕ) → AddedSoFar f whole rest old new → AddedAll (each f whole) old new
+    pairs_end f old new p = so_far_end f whole old new (subst (λ l. AddedSoFar f whole l old new) none p)
 
-  pub functionals_start : FunctionalSoFar all (rules_in h s h.rules h.start) 0
-  functionals_start = functional_start all
+    pub functionals_end : (word : ℕ) → FunctionalSoFar whole rest word → FunctionalOf whole word
+    functionals_end word p = functional_end whole word (subst (λ l. FunctionalSoFar whole l word) none p)
 
-  module _ (n at : ℕ) where
-    module _ (more : 0 < n) (e : RuleRead) (is : rule_read_told e ≡ rule_at h s at) where
-      module _ (rule : RuleCase) (next : ℕ) (read : e ≡ RuleIs rule next) where
-        pub arrows_on : (old t new : List ℕ) → AddedSoFar arrows_of all (rules_in h s n at) old t → AddedAll (arrows_of (rule_told rule)) t new → AddedSoFar arrows_of all (rules_in h s (n - 1) next) old new
-        arrows_on old t new p q =
-            so_far_on arrows_of all (rules_in h s (n - 1) next) (rule_told rule) old t new
-            (subst (λ l. AddedSoFar arrows_of all l old t) (one_more h s n at more e is rule next read) p) q
+-- all tables together
+pub record FilledSoFar (whole rest : List Rule) (t₀ : Tables) (on₀ : List ℕ) (t : Tables) (on : List ℕ) : Type 0 where
+  pub arrows : AddedSoFar arrows_of whole rest t₀.included t.included
+  pub onward : AddedSoFar arrows_of whole rest on₀ on
+  pub exclusions : AddedSoFar exclusions_of whole rest t₀.excluded t.excluded
+  pub functionals : FunctionalSoFar whole rest t.functional
 
-        pub exclusions_on : (old t new : List ℕ) → AddedSoFar exclusions_of all (rules_in h s n at) old t → AddedAll (exclusions_of (rule_told rule)) t new
-            → AddedSoFar exclusions_of all (rules_in h s (n - 1) next) old new
-        exclusions_on old t new p q =
-            so_far_on exclusions_of all (rules_in h s (n - 1) next) (rule_told rule) old t new
-            (subst (λ l. AddedSoFar exclusions_of all l old t) (one_more h s n at more e is rule next read) p) q
+pub filled_start : (whole : List Rule) (t : Tables) (on : List ℕ) → FilledSoFar whole whole t on (record { included = t.included; excluded = t.excluded; functional = 0 }) on
+filled_start whole t on =
+    record {
+      arrows = so_far_start arrows_of whole t.included;
+      onward = so_far_start arrows_of whole on;
+      exclusions = so_far_start exclusions_of whole t.excluded;
+      functionals = functional_start whole;
+    }
 
-        pub functionals_on : (word new : ℕ) → FunctionalSoFar all (rules_in h s n at) word → FunctionalAdded (rule_told rule) word new → FunctionalSoFar all (rules_in h s (n - 1) next) new
-        functionals_on word new p q =
-            functional_on all (rules_in h s (n - 1) next) (rule_told rule) word new
-            (subst (λ l. FunctionalSoFar all l word) (one_more h s n at more e is rule next read) p) q
-
-      module _ (r : Refusal) (refused : e ≡ RuleRefused r) where
-        pub arrows_stop : (old new : List ℕ) → AddedSoFar arrows_of all (rules_in h s n at) old new → AddedAll (each arrows_of all) old new
-        arrows_stop old new p = so_far_end arrows_of all old new (subst (λ l. AddedSoFar arrows_of all l old new) (none_left h s n at more e is r refused) p)
-
-        pub exclusions_stop : (old new : List ℕ) → AddedSoFar exclusions_of all (rules_in h s n at) old new → AddedAll (each exclusions_of all) old new
-        exclusions_stop old new p = so_far_end exclusions_of all old new (subst (λ l. AddedSoFar exclusions_of all l old new) (none_left h s n at more e is r refused) p)
-
-        pub functionals_stop : (word : ℕ) → FunctionalSoFar all (rules_in h s n at) word → FunctionalOf all word
-        functionals_stop word p = functional_end all word (subst (λ l. FunctionalSoFar all l word) (none_left h s n at more e is r refused) p)
-
-    module _ (over : n ≤ 0) where
-      pub arrows_end : (old new : List ℕ) → AddedSoFar arrows_of all (rules_in h s n at) old new → AddedAll (each arrows_of all) old new
-      arrows_end old new p = so_far_end arrows_of all old new (subst (λ l. AddedSoFar arrows_of all l old new) (all_read h s n at over) p)
-
-      pub exclusions_end : (old new : List ℕ) → AddedSoFar exclusions_of all (rules_in h s n at) old new → AddedAll (each exclusions_of all) old new
-      exclusions_end old new p = so_far_end exclusions_of all old new (subst (λ l. AddedSoFar exclusions_of all l old new) (all_read h s n at over) p)
-
-      pub functionals_end : (word : ℕ) → FunctionalSoFar all (rules_in h s n at) word → FunctionalOf all word
-      functionals_end word p = functional_end all word (subst (λ l. FunctionalSoFar all l word) (all_read h s n at over) p)
-
-pub ruleset filling = (blank_table, zeros_table, arrows_start, exclusions_start, functionals_start, arrows_on, exclusions_on, functionals_on, arrows_stop, exclusions_stop, functionals_stop, arrows_end, exclusions_end, functionals_end, rules)
+module _ (whole rest : List Rule) (t₀ : Tables) (on₀ : List ℕ) (t : Tables) (on : List ℕ) (so : FilledSoFar whole rest t₀ on₀ t on) where
+  pub filled_on : (rule : Rule) (rest' : List Rule) → rest ≡ rule ∷ rest' → (t' : Tables) (on' : List ℕ) → AddedAll (arrows_of rule) t.included t'.included
+      → AddedAll (arrows_of rule) on on' → AddedAll (exclusions_of rule) t.excluded t'.excluded → FunctionalAdded rule t.functional t'.functional
+      → FilledSoFar whole rest' t₀ on₀ t' on'
+  filled_on rule rest' one t' on' a o x f =
+      record {
+        arrows = pairs_on whole rest rule rest' one arrows_of t₀.included t.included t'.included so.arrows a;
+        onward = pairs_on whole rest rule rest' one arrows_of on₀ on on' so.onward o;
+        exclusions = pairs_on whole rest rule rest' one exclusions_of t₀.excluded t.excluded t'.excluded so.exclusions x;
+        functionals = functionals_on whole rest rule rest' one t.functional t'.functional so.functionals f;
+      }

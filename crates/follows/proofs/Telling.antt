@@ -1,10 +1,8 @@
 -- The filled tables say what the definition's tables say: both pass exactly where the relations hold.
 use Prim.Native.Nat.{ℕ, ◌<◌}
-use mathlib.Core.Path.{◌≡◌, refl, ap, subst, ◌∙◌}
+use mathlib.Core.Path.{◌≡◌, ap, subst, ◌∙◌}
 use mathlib.Core.Bool.{true}
 use mathlib.Core.List.{List}
-use lib.ListN.{replicate}
-use borrow.Author.Rules.{rules}
 use Rattle.site.specs.Kinds.{BasicRole, Node, Site, declared}
 use Rattle.site.specs.Codes.{role_of, role_code, node_of, node_code}
 use Rattle.site.specs.Lists.{each}
@@ -23,7 +21,6 @@ use Rattle.follows.specs.Adding.{AddedAll, exclusions_of, rings}
 use Rattle.follows.specs.Tells.{Blank, FunctionalOf, Tells}
 use Rattle.follows.proofs.Numbers.{code_node, role_of_code}
 use Rattle.follows.proofs.Bridge.{included_based, on_based, excluded_out, excluded_in}
-use Rattle.follows.proofs.Filling.{blank_table, zeros_table}
 
 module _ (s : Site) (inc₀ inc₁ inc₂ on₀ on₁ on₂ on₃ exc₀ exc₁ exc₂ : List ℕ) (word : ℕ)
     (blank-inc : Blank inc₀) (inc-added : AddedAll (each arrows_of s.rules) inc₀ inc₁) (inc_Closed : Closes s.concepts s.roles inc₁ inc₂)
@@ -58,16 +55,16 @@ module _ (s : Site) (inc₀ inc₁ inc₂ on₀ on₁ on₂ on₃ exc₀ exc₁ 
   tells = record { in_included = by_included; in_excluded = by_excluded; in_functionals = by_functional }
 
 -- what `fill` has done
-pub filled_all : (s : List ℕ) (h : Head) (d : Declared) (inc₀ inc₁ inc₂ on₁ on₂ on₃ exc₀ exc₁ exc₂ : List ℕ) (word : ℕ) → d ≡ record { concepts = h.concepts; roles = h.roles }
+pub filled_all : (s : List ℕ) (h : Head) (d : Declared) (inc₀ inc₁ inc₂ on₀ on₁ on₂ on₃ exc₀ exc₁ exc₂ : List ℕ) (word : ℕ) → d ≡ record { concepts = h.concepts; roles = h.roles }
     → Shuts d.concepts d.roles inc₂ on₃ exc₁ exc₂ → AddedAll (each exclusions_of (rules_in h s h.rules h.start)) exc₀ exc₁ → Blank exc₀
     → Closes d.concepts d.roles inc₁ inc₂ → AddedAll (each arrows_of (rules_in h s h.rules h.start)) inc₀ inc₁ → Blank inc₀
-    → Closes d.concepts d.roles on₂ on₃ → AddedAll (rings d.roles) on₁ on₂ → AddedAll (each arrows_of (rules_in h s h.rules h.start)) (replicate 576 0) on₁
+    → Closes d.concepts d.roles on₂ on₃ → AddedAll (rings d.roles) on₁ on₂ → AddedAll (each arrows_of (rules_in h s h.rules h.start)) on₀ on₁ → Blank on₀
     → FunctionalOf (rules_in h s h.rules h.start) word → Tells (site_of s h) inc₂ exc₂ word
 unfolding site_of
-filled_all s h d inc₀ inc₁ inc₂ on₁ on₂ on₃ exc₀ exc₁ exc₂ word e sh xa xb ic ia ib oc og oa fu =
-    tells (site_of s h) inc₀ inc₁ inc₂ (replicate 576 0) on₁ on₂ on₃ exc₀ exc₁ exc₂ word ib ia
+filled_all s h d inc₀ inc₁ inc₂ on₀ on₁ on₂ on₃ exc₀ exc₁ exc₂ word e sh xa xb ic ia ib oc og oa ob fu =
+    tells (site_of s h) inc₀ inc₁ inc₂ on₀ on₁ on₂ on₃ exc₀ exc₁ exc₂ word ib ia
     (subst (λ z. Closes z.concepts z.roles inc₁ inc₂) e ic)
-    refl
+    ob
     oa
     (subst (λ z. AddedAll (rings z.roles) on₁ on₂) e og)
     (subst (λ z. Closes z.concepts z.roles on₂ on₃) e oc)
@@ -93,5 +90,3 @@ module _ (s : Site) (lawful : Lawful s) (inc exc : List ℕ) (word : ℕ) (t : T
 
   pub functional_coded : (q : BasicRole) → role_code q < 64 → bit_of word (role_code q) ≡ (follows_of s).is_functional q
   functional_coded q h = t.in_functionals (role_code q) h ∙ ap (follows_of s).is_functional (role_of_code q)
-
-pub ruleset telling = (blank_table, zeros_table, filled_all, rules)

@@ -1,5 +1,5 @@
 -- What adding pairs of nodes to a table does, and which pairs a rule and a role give.
-use Rattle.std.specs.Prelude.{ℕ, ◌<◌, ◌≤◌, ◌≡◌, true}
+use Rattle.std.specs.Prelude.{ℕ, ◌<◌, ◌≡◌, true}
 use mathlib.Core.List.{List, [], ◌∷◌, Memᴰ}
 use Rattle.site.specs.Kinds.{BasicRole, Rule, turned}
 use Rattle.site.specs.Kinds.BasicRole.{forward, inverse}
@@ -9,7 +9,7 @@ use Rattle.site.specs.Kinds.Rule.{functional}
 use Rattle.site.specs.Codes.{role_of, node_code}
 use Rattle.site.specs.Lists.{up_to, each}
 use Rattle.steps.specs.Tables.{Pair, written_of}
-use Rattle.tables.specs.Bits.{bit_of, Has, IsTable}
+use Rattle.tables.specs.Bits.{bit_of, Has}
 
 -- an entry was there, or is one of the pairs
 pub data CamePair (pairs : List Pair) (old : List ℕ) (u v : ℕ) : Type 0 where
@@ -18,7 +18,6 @@ pub data CamePair (pairs : List Pair) (old : List ℕ) (u v : ℕ) : Type 0 wher
 
 -- what was there stays, the pairs come, and nothing else came
 pub record AddedAll (pairs : List Pair) (old new : List ℕ) : Type 0 where
-  pub table : IsTable new
   pub stays : (u v : ℕ) → Has old u v → Has new u v
   pub comes : (a : Pair) → Memᴰ a pairs → node_code a.left < 192 → node_code a.right < 192 → Has new (node_code a.left) (node_code a.right)
   pub came : (u v : ℕ) → Has new u v → CamePair pairs old u v
@@ -52,11 +51,6 @@ ring j =
 -- the rings of the first roles
 unfoldable pub rings : ℕ → List Pair
 rings n = each ring (up_to n)
-
--- the rings of the first j roles have been added
-pub record RingsTo (j roles : ℕ) (old new : List ℕ) : Type 0 where
-  pub within : j ≤ roles
-  pub all : AddedAll (rings j) old new
 
 -- one more functional role: a bit for each basic role
 pub data CameFunctional (rule : Rule) (old k : ℕ) : Type 0 where

@@ -9,6 +9,7 @@ use Rattle.rules.specs.Lawful.{Lawful}
 use Rattle.steps.specs.Tables.{Pair, follows_of}
 use Rattle.tables.specs.Bits.{bit_of, has}
 use Rattle.follows.specs.Adding.{AddedAll}
+use Rattle.follows.specs.declared.filled.Tables.{Tables}
 
 -- a table with nothing in it
 abbrev pub Blank : List ℕ → Type 0
@@ -36,3 +37,13 @@ pub record Tells (s : Site) (included excluded : List ℕ) (functionals : ℕ) :
   pub in_included : Lawful s → (x y : ℕ) → has included x y ≡ (follows_of s).is_included (node_of x) (node_of y)
   pub in_excluded : Lawful s → (x y : ℕ) → has excluded x y ≡ (follows_of s).is_excluded (node_of x) (node_of y)
   pub in_functionals : (q : ℕ) → q < 64 → bit_of functionals q ≡ (follows_of s).is_functional (role_of q)
+
+-- tables of no rules
+pub record Empty (t : Tables) : Type 0 where
+  pub included : Blank t.included
+  pub excluded : Blank t.excluded
+  pub functional : t.functional ≡ 0
+
+-- the same of the tables together
+abbrev pub TellsAll : Site → Tables → Type 0
+TellsAll s t = Tells s t.included t.excluded t.functional

@@ -1,85 +1,65 @@
 // The tables of a rule file, from its bytes.
-ghost use Rattle.site.specs.Lists.{each};
-ghost use Rattle.rules.specs.RuleFile.{rules_in, site_of};
+ghost use Rattle.rules.specs.RuleFile.{site_of};
+ghost use Rattle.site.specs.Told.{rule_told};
 ghost use Rattle.steps.specs.Tables.{arrows_of};
-ghost use Rattle.tables.specs.Bits.{IsTable};
-ghost use Rattle.follows.specs.Adding.{AddedAll, exclusions_of};
-ghost use Rattle.follows.specs.Tells.{Blank, FunctionalOf, Tells};
+ghost use Rattle.follows.specs.Adding.{AddedAll, exclusions_of, FunctionalAdded};
+ghost use Rattle.follows.specs.Tells.{Blank, Empty, TellsAll};
 
 use crate::says::{add_arrows, add_exclusions, add_functional, add_rings};
 use exclusions::exclude;
-use rule::{Head, RuleRead, rule_at};
-use tables::{BLANK, Table, close};
+use rule::Head;
+use rules::RulesOf;
+use site::Rule;
+use tables::Table;
 
-// The arrows of all rules.
-fn arrows_of(s: &[u8], head: Head, t: &mut Table)
-    requires { IsTable t.old }
-    ensures { AddedAll (each arrows_of (rules_in head s.now head.rules head.start)) t.old t.new }
-{
-    let mut at = head.start;
-    let mut left = head.rules;
-    while 0 < left {
-        let got = rule_at(s, head, at);
-        let RuleRead::Read(rule, next) = got else {
-            return;
-        };
-        add_arrows(t, rule);
-        at = next;
-        left -= 1;
-    }
+// What is included, what is excluded, and the functional basic roles, a bit for each.
+#[derive(Drop)]
+pub struct Tables {
+    pub included: Table,
+    pub excluded: Table,
+    pub functional: u64,
 }
 
-// The written exclusions of all rules.
-fn exclusions_of(s: &[u8], head: Head, t: &mut Table)
-    requires { IsTable t.old }
-    ensures { AddedAll (each exclusions_of (rules_in head s.now head.rules head.start)) t.old t.new }
-{
-    let mut at = head.start;
-    let mut left = head.rules;
-    while 0 < left {
-        let got = rule_at(s, head, at);
-        let RuleRead::Read(rule, next) = got else {
-            return;
-        };
-        add_exclusions(t, rule);
-        at = next;
-        left -= 1;
+impl Tables {
+    // Those of no rules.
+    pub fn empty() -> Self
+        ensures { Empty result }
+    {
+        Self {
+            included: Table::blank(),
+            excluded: Table::blank(),
+            functional: 0,
+        }
     }
-}
 
-// The functional roles of all rules, a bit for each basic role.
-fn functionals_of(s: &[u8], head: Head) -> u64
-    ensures { FunctionalOf (rules_in head s.now head.rules head.start) result }
-{
-    let mut word = 0;
-    let mut at = head.start;
-    let mut left = head.rules;
-    while 0 < left {
-        let got = rule_at(s, head, at);
-        let RuleRead::Read(rule, next) = got else {
-            return word;
-        };
-        word = add_functional(word, rule);
-        at = next;
-        left -= 1;
+    // One rule more: its arrows, its written exclusions, its functional role.
+    fn take_in(&mut self, on: &mut Table, rule: Rule)
+        ensures arrows { AddedAll (arrows_of (rule_told rule)) self.old.included self.new.included }
+        ensures onward { AddedAll (arrows_of (rule_told rule)) on.old on.new }
+        ensures exclusions { AddedAll (exclusions_of (rule_told rule)) self.old.excluded self.new.excluded }
+        ensures functionals { FunctionalAdded (rule_told rule) self.old.functional self.new.functional }
+    {
+        add_arrows(&mut self.included, rule);
+        add_arrows(on, rule);
+        add_exclusions(&mut self.excluded, rule);
+        self.functional = add_functional(self.functional, rule);
     }
-    word
-}
 
-// Fills the table of what is included and that of what is excluded, and gives the functional basic roles, a bit for each.
-pub fn fill(s: &[u8], head: Head, included: &mut Table, excluded: &mut Table) -> u64
-    requires blank { Blank included.old }
-    requires blank_2 { Blank excluded.old }
-    ensures { Tells (site_of s.now head) included.new excluded.new result }
-{
-    let d = head.declared();
-    let mut on = BLANK;
-    arrows_of(s, head, included);
-    arrows_of(s, head, &mut on);
-    add_rings(&mut on, d);
-    close(included, d);
-    close(&mut on, d);
-    exclusions_of(s, head, excluded);
-    exclude(excluded, included, &on, d);
-    functionals_of(s, head)
+    // Blank tables come to say what follows from the rules of an accepted file.
+    pub fn fill(&mut self, s: &[u8], head: Head)
+        requires included { Blank self.old.included }
+        requires excluded { Blank self.old.excluded }
+        ensures { TellsAll (site_of s.now head) self.new }
+    {
+        let d = head.declared();
+        let mut on = Table::blank();
+        self.functional = 0;
+        for rule in RulesOf::new(s, head) {
+            self.take_in(&mut on, rule);
+        }
+        add_rings(&mut on, d);
+        self.included.close(d);
+        on.close(d);
+        exclude(&mut self.excluded, &self.included, &on, d);
+    }
 }

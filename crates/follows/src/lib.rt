@@ -4,4 +4,4 @@
 mod filled;
 mod says;
 
-pub use filled::fill;
+pub use filled::Tables;

@@ -6,8 +6,9 @@ use mathlib.Core.List.{List, [], ◌∷◌, ◌++◌, map}
 use Rattle.number.specs.Answer.{refusal}
 use Rattle.number.specs.Number.{form_of, second, third, number_at}
 use Rattle.number.specs.declared.refusal.Refusal.{Refusal}
+use Rattle.number.specs.declared.refusal.Fault.TheVariants.{After}
+use Rattle.number.specs.declared.refusal.Side.TheVariants.{Rules}
 use Rattle.site.specs.Codes.{role_of, concept_of, concept_declared, predicate_declared}
-use Rattle.site.specs.Limits.{no_partner}
 use Rattle.site.specs.Lists.{up_to, any, count, first, each}
 use Rattle.site.specs.Items.{tested_at, at_most, items_from, end_at}
 use Rattle.rule.specs.OneRule.{head_of, code_declared, rule_at}
@@ -17,6 +18,8 @@ use Rattle.steps.specs.Tables.{roles_of, nodes_of, arrow, mates, find, rows_of, 
 use Rattle.clashes.specs.Types.{types_of}
 use Rattle.clashes.specs.Marks.{jar, split, meet, alone, contradict, clash, mark, partner, marks, partners, marked, counts}
 use Rattle.clashes.specs.declared.answers.Counts.{Counts}
+use Rattle.clashes.specs.declared.answers.Judged.{Judged}
+use Rattle.clashes.specs.declared.answers.Judged.TheVariants.{Kept, Alone, Disputed}
 use Rattle.clean.specs.Operations.{given, room_for_marks, marking}
 use Rattle.listing.specs.Decimal.{digits_of, decimal_of}
 use Rattle.listing.specs.Put.{named}
@@ -27,23 +30,23 @@ use Rattle.listing.specs.Listing.{line_at, lines_from, listing_of}
 pub data Case : Type 0 where
   -- the whole listing of rules and a bundle
   whole : List ℕ → List ℕ → List ℕ → Case
-  -- one line: of counts, of a fact's number, mark and partner, of a refusal
+  -- one line: of counts, of a fact's number and what is judged of it, of a refusal
   of_counts : Counts → List ℕ → Case
-  of_fact : ℕ → ℕ → ℕ → List ℕ → Case
+  of_fact : ℕ → Judged → List ℕ → Case
   of_refusal : Refusal → List ℕ → Case
 
 -- what the definitions give
 abbrev pub defined : Case → List ℕ
 defined (whole r f e) = listing_of r f
 defined (of_counts c e) = counts_line c
-defined (of_fact n m p e) = fact_line n m p
+defined (of_fact n j e) = fact_line n j
 defined (of_refusal r e) = refusal_line r
 
 -- what document 01 prints
 abbrev pub printed : Case → List ℕ
 printed (whole r f e) = e
 printed (of_counts c e) = e
-printed (of_fact n m p e) = e
+printed (of_fact n j e) = e
 printed (of_refusal r e) = e
 
 -- "Rule file R", "Bundle F"
@@ -87,11 +90,11 @@ cases =
     -- `facts 4096 kept 90 alone 1005 disputed 3001`
     ∷ of_counts (record { facts = 4096; kept = 90; alone = 1005; disputed = 3001 }) (102 ∷ 97 ∷ 99 ∷ 116 ∷ 115 ∷ 32 ∷ 52 ∷ 48 ∷ 57 ∷ 54 ∷ 32 ∷ 107 ∷ 101 ∷ 112 ∷ 116 ∷ 32 ∷ 57 ∷ 48 ∷ 32 ∷ 97 ∷ 108 ∷ 111 ∷ 110 ∷ 101 ∷ 32 ∷ 49 ∷ 48 ∷ 48 ∷ 53 ∷ 32 ∷ 100 ∷ 105 ∷ 115 ∷ 112 ∷ 117 ∷ 116 ∷ 101 ∷ 100 ∷ 32 ∷ 51 ∷ 48 ∷ 48 ∷ 49 ∷ 10 ∷ [])
     -- `10 kept`, `100 alone`, `4095 disputed 907`
-    ∷ of_fact 10 0 no_partner (49 ∷ 48 ∷ 32 ∷ 107 ∷ 101 ∷ 112 ∷ 116 ∷ 10 ∷ [])
-    ∷ of_fact 100 1 no_partner (49 ∷ 48 ∷ 48 ∷ 32 ∷ 97 ∷ 108 ∷ 111 ∷ 110 ∷ 101 ∷ 10 ∷ [])
-    ∷ of_fact 4095 2 907 (52 ∷ 48 ∷ 57 ∷ 53 ∷ 32 ∷ 100 ∷ 105 ∷ 115 ∷ 112 ∷ 117 ∷ 116 ∷ 101 ∷ 100 ∷ 32 ∷ 57 ∷ 48 ∷ 55 ∷ 10 ∷ [])
+    ∷ of_fact 10 Kept (49 ∷ 48 ∷ 32 ∷ 107 ∷ 101 ∷ 112 ∷ 116 ∷ 10 ∷ [])
+    ∷ of_fact 100 Alone (49 ∷ 48 ∷ 48 ∷ 32 ∷ 97 ∷ 108 ∷ 111 ∷ 110 ∷ 101 ∷ 10 ∷ [])
+    ∷ of_fact 4095 (Disputed 907) (52 ∷ 48 ∷ 57 ∷ 53 ∷ 32 ∷ 100 ∷ 105 ∷ 115 ∷ 112 ∷ 117 ∷ 116 ∷ 101 ∷ 100 ∷ 32 ∷ 57 ∷ 48 ∷ 55 ∷ 10 ∷ [])
     -- `refused 7 in rules at 2820`
-    ∷ of_refusal (refusal 7 0 2820) (114 ∷ 101 ∷ 102 ∷ 117 ∷ 115 ∷ 101 ∷ 100 ∷ 32 ∷ 55 ∷ 32 ∷ 105 ∷ 110 ∷ 32 ∷ 114 ∷ 117 ∷ 108 ∷ 101 ∷ 115 ∷ 32 ∷ 97 ∷ 116 ∷ 32 ∷ 50 ∷ 56 ∷ 50 ∷ 48 ∷ 10 ∷ [])
+    ∷ of_refusal (refusal After Rules 2820) (114 ∷ 101 ∷ 102 ∷ 117 ∷ 115 ∷ 101 ∷ 100 ∷ 32 ∷ 55 ∷ 32 ∷ 105 ∷ 110 ∷ 32 ∷ 114 ∷ 117 ∷ 108 ∷ 101 ∷ 115 ∷ 32 ∷ 97 ∷ 116 ∷ 32 ∷ 50 ∷ 56 ∷ 50 ∷ 48 ∷ 10 ∷ [])
     ∷ []
 
 pub cases_hold : map defined cases ≡ map printed cases

@@ -1,12 +1,17 @@
--- Putting bytes into a line: two runs of bytes one after the other are one run, a word goes in byte by byte, a number by its tenth and its last digit.
-use Prim.Native.Nat.{ℕ, suc, ◌+◌, ◌/◌, ◌%◌, ◌^◌, ◌≤◌, ◌<◌}
+-- Putting bytes into a line: two runs of bytes one after the other are one run, a word is copied, a number by its tenth and its last digit.
+use Prim.Native.Nat.{ℕ, suc, ◌+◌, ◌/◌, ◌%◌, ◌^◌, ◌-◌, ◌≤◌, ◌<◌}
 use mathlib.Core.Path.{◌≡◌, refl, sym, ap, ◌∙◌}
 use mathlib.Core.List.{List, [], ◌∷◌, ◌++◌}
-use lib.ListN.{length, drop, set, length-append}
-use lib.Seq.{sets, length-sets}
+use lib.ListN.{length, take, drop, set, length-append}
+use lib.Seq.{sets, length-sets, sets-eq}
 use native.Mathlib.Nat.{add-zero}
 use native.Mathlib.Omega.{arith}
 use borrow.Author.Rules.{rules}
+use borrow.Rule.Slice.PartMut.{put_mid}
+use Rattle.std.proofs.Common.{append_assoc}
+use Rattle.std.proofs.lemmas.List.Edits.{paste_all}
+use Rattle.std.proofs.lemmas.Slice.{put_mid-paste}
+use Rattle.std.proofs.Math.Seq.{paste}
 use Rattle.listing.specs.Decimal.{digit, decimal_of}
 use Rattle.listing.specs.Put.{Laid, LaidNumber, LaidNamed, named}
 use Rattle.listing.proofs.OfDecimals.{decimal_one, decimal_more, at_most_19}
@@ -48,12 +53,13 @@ module _ (out : List ℕ) (at n : ℕ) where
           few = omega (arith, at_most_19 n fits, tenth.laid.place);
         }
 
--- a word: what is left to put from here comes to what the whole does
-pub record Putting (out₀ : List ℕ) (at : ℕ) (word out : List ℕ) (p i : ℕ) : Type 0 where
-  pub place : p ≡ at + i
-  pub within : i ≤ length word
-  pub size : length out ≡ length out₀
-  pub same : sets out p (drop i word) ≡ sets out₀ at word
+-- a word: what is copied into a part of the line is put there byte by byte
+pub word_laid : (out : List ℕ) (at : ℕ) (word part : List ℕ) → at + length word ≤ length out → part ≡ word → Laid out at word (at + length word) (put_mid at (at + length word - at) out part)
+word_laid out at word part fits e =
+    let same : length word ≡ at + length word - at = omega arith in
+    let put : put_mid at (at + length word - at) out part ≡ paste out at word (length word) = put_mid-paste at _ out part word (length word) e same refl in
+    laid out at word (at + length word) _ refl
+    (put ∙ paste_all out at word (length word) refl ∙ sym (sets-eq word out at fits ∙ append_assoc (take at out) word (drop (at + length word) out)))
 
 -- a word and its number
 module _ (out : List ℕ) (at : ℕ) (word : List ℕ) (n p : ℕ) (mid : List ℕ) (first : Laid out at word p mid) where
@@ -65,4 +71,4 @@ module _ (out : List ℕ) (at : ℕ) (word : List ℕ) (n p : ℕ) (mid : List �
   named_laid r out' second =
       record { laid = laid_both out at word p mid (decimal_of n) r out' first second.laid; few = omega (arith, first.place, second.few) }
 
-pub ruleset putting = (number_one, in_last, number_more, named_room, named_laid, rules)
+pub ruleset putting = (number_one, in_last, number_more, word_laid, named_room, named_laid, rules)

@@ -1,8 +1,13 @@
 -- The lines of the listing as bytes: "The words of the listing are fixed byte strings; (..) each line ends with one newline."
-use Rattle.std.specs.Prelude.{ℕ, ◌+◌, ◌≤◌, ◌≡◌, cond, List, [], ◌∷◌, ◌++◌, length, take, eqb}
+use Rattle.std.specs.Prelude.{ℕ, ◌+◌, ◌≤◌, ◌≡◌, List, [], ◌∷◌, ◌++◌, length, take}
 use Rattle.std.proofs.lemmas.List.Edits.{sets}
 use Rattle.number.specs.declared.refusal.Refusal.{Refusal}
+use Rattle.number.specs.Answer.{number_of}
+use Rattle.number.specs.declared.refusal.Side.{Side}
+use Rattle.number.specs.declared.refusal.Side.TheVariants.{Rules, Bundle, Call}
 use Rattle.clashes.specs.declared.answers.Counts.{Counts}
+use Rattle.clashes.specs.declared.answers.Judged.{Judged}
+use Rattle.clashes.specs.declared.answers.Judged.TheVariants.{Kept, Alone, Disputed}
 use Rattle.listing.specs.Decimal.{decimal_of}
 use Rattle.listing.specs.Put.{Laid, named}
 
@@ -52,28 +57,32 @@ counts_line c =
     named facts_word c.facts ++ named kept_count c.kept ++ named alone_count c.alone ++ named disputed_word c.disputed ++ newline
 
 -- "its mark, and for a disputed fact its partner"
-unfoldable pub mark_of : ℕ → ℕ → List ℕ
-mark_of mark partner = cond (eqb mark 0) kept_word (cond (eqb mark 1) alone_word (named disputed_word partner))
+unfoldable pub mark_of : Judged → List ℕ
+mark_of Kept = kept_word
+mark_of Alone = alone_word
+mark_of (Disputed partner) = named disputed_word partner
 
 -- "each other line has the fact's number, its mark, and for a disputed fact its partner"
-unfoldable pub fact_line : ℕ → ℕ → ℕ → List ℕ
-fact_line number mark partner = decimal_of number ++ mark_of mark partner ++ newline
+unfoldable pub fact_line : ℕ → Judged → List ℕ
+fact_line number judged = decimal_of number ++ mark_of judged ++ newline
 
--- where a refusal stands: side 0 is the rules
-unfoldable pub place_of : ℕ → ℕ → List ℕ
-place_of side place = cond (eqb side 0) (named rules_word place) (named bundle_word place)
+-- where a refusal stands: "in bundle at 3`, or `in rules`"
+unfoldable pub place_of : Side → ℕ → List ℕ
+place_of Rules place = named rules_word place
+place_of Bundle place = named bundle_word place
+place_of Call place = named bundle_word place
 
 -- "A refusal prints one line, as `refused 8 in bundle at 3`, or `in rules`."
 unfoldable pub refusal_line : Refusal → List ℕ
-refusal_line r = named refused_word r.number ++ place_of r.side r.place ++ newline
+refusal_line r = named refused_word (number_of r.fault) ++ place_of r.side r.place ++ newline
 
 -- a mark at a place, and a refusal's side with its place
-pub record LaidMark (out : List ℕ) (at mark partner r : ℕ) (out' : List ℕ) : Type 0 where
-  pub laid : Laid out at (mark_of mark partner) r out'
+pub record LaidMark (out : List ℕ) (at : ℕ) (judged : Judged) (r : ℕ) (out' : List ℕ) : Type 0 where
+  pub laid : Laid out at (mark_of judged) r out'
   pub few : r ≤ at + 30
 
 -- a refusal's side and place, at a place
-pub record LaidPlace (out : List ℕ) (at side place r : ℕ) (out' : List ℕ) : Type 0 where
+pub record LaidPlace (out : List ℕ) (at : ℕ) (side : Side) (place r : ℕ) (out' : List ℕ) : Type 0 where
   pub laid : Laid out at (place_of side place) r out'
   pub few : r ≤ at + 34
 

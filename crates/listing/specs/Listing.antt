@@ -2,22 +2,23 @@
 -- refusal prints one line".
 use Rattle.std.specs.Prelude.{ℕ, zero, suc, ◌+◌, ◌-◌, ◌≤◌, cond, List, [], ◌++◌, length, get_or, eqb}
 use Rattle.number.specs.Answer.{Answer, over}
-use Rattle.number.specs.Answer.Answer.{gives, refuses}
+use Rattle.std.specs.Prelude.{Ok, Err}
 use Rattle.site.specs.Limits.{most_facts}
 use Rattle.clashes.specs.declared.answers.Counts.{Counts}
+use Rattle.clashes.specs.Judging.{judged_so}
 use Rattle.clean.specs.Operations.{marking}
 use Rattle.listing.specs.Lines.{counts_line, fact_line, refusal_line}
 
 -- how many lines there are
 abbrev pub lines_of : Answer Counts → ℕ
-lines_of (gives c) = c.facts + 1
-lines_of (refuses r) = 1
+lines_of (Ok c) = c.facts + 1
+lines_of (Err r) = 1
 
 -- the line of a number, from the counts or the refusal and the rows of marks and partners
 unfoldable pub line_at : Answer Counts → List ℕ → List ℕ → ℕ → List ℕ
-line_at (gives c) marks partners k =
-    cond (eqb k 0) (counts_line c) (fact_line (k - 1) (get_or marks (k - 1) 0) (get_or partners (k - 1) 0))
-line_at (refuses r) marks partners k = refusal_line r
+line_at (Ok c) marks partners k =
+    cond (eqb k 0) (counts_line c) (fact_line (k - 1) (judged_so (get_or marks (k - 1) 0) (get_or partners (k - 1) 0)))
+line_at (Err r) marks partners k = refusal_line r
 
 -- so many lines from a number on, one after the other
 unfoldable pub lines_from : Answer Counts → List ℕ → List ℕ → ℕ → ℕ → List ℕ
@@ -26,8 +27,8 @@ lines_from a marks partners k (suc left) = line_at a marks partners k ++ lines_f
 
 -- a row, or none where there is a refusal
 abbrev pub row_of : Answer (List ℕ) → List ℕ
-row_of (gives row) = row
-row_of (refuses r) = []
+row_of (Ok row) = row
+row_of (Err r) = []
 
 -- what the program prints for some rules and some bundle
 unfoldable pub listing_of : List ℕ → List ℕ → List ℕ

@@ -4,7 +4,7 @@ ghost use Rattle.listing.specs.Lines.{counts_line, fact_line, refusal_line, Laid
 
 use crate::put::{put_decimal, put_named, put_word};
 use clashes::{Counts, Judged};
-use number::Refusal;
+use number::{Refusal, Side};
 
 // The room of a line: none is longer, whatever its numbers of 64 bits are.
 pub const ROOM: usize = 128;
@@ -41,43 +41,43 @@ pub fn counts_line(out: &mut [u8; ROOM], counts: Counts) -> usize
     put_word(out, d, &NEWLINE)
 }
 
-fn put_mark(out: &mut [u8], at: usize, mark: u8, partner: u16) -> usize
+#[tactic(auto, unfolding(crate::specs::Lines::mark_of))]
+fn put_mark(out: &mut [u8], at: usize, judged: Judged) -> usize
     requires { at + 30 ≤ length out.old }
-    ensures { LaidMark out.old at mark partner result out.new }
+    ensures { LaidMark out.old at judged result out.new }
 {
-    if mark == Judged::KEPT as u8 {
-        return put_word(out, at, &KEPT);
+    match judged {
+        Judged::Kept => put_word(out, at, &KEPT),
+        Judged::Alone => put_word(out, at, &ALONE),
+        Judged::Disputed(partner) => put_named(out, at, &DISPUTED, partner as u64),
     }
-    if mark == Judged::ALONE as u8 {
-        return put_word(out, at, &ALONE);
-    }
-    put_named(out, at, &DISPUTED, partner as u64)
 }
 
 // "each other line has the fact's number, its mark, and for a disputed fact its partner"
-pub fn fact_line(out: &mut [u8; ROOM], number: usize, mark: u8, partner: u16) -> usize
-    ensures { Line out.old (fact_line number mark partner) result out.new }
+pub fn fact_line(out: &mut [u8; ROOM], number: usize, judged: Judged) -> usize
+    ensures { Line out.old (fact_line number judged) result out.new }
 {
     let a = put_decimal(out, 0, number as u64);
-    let b = put_mark(out, a, mark, partner);
+    let b = put_mark(out, a, judged);
     put_word(out, b, &NEWLINE)
 }
 
-fn put_place(out: &mut [u8], at: usize, side: u32, place: usize) -> usize
+#[tactic(auto, unfolding(crate::specs::Lines::place_of))]
+fn put_place(out: &mut [u8], at: usize, side: Side, place: usize) -> usize
     requires { at + 34 ≤ length out.old }
     ensures { LaidPlace out.old at side place result out.new }
 {
-    if side == Refusal::RULES {
-        return put_named(out, at, &IN_RULES, place as u64);
+    match side {
+        Side::Rules => put_named(out, at, &IN_RULES, place as u64),
+        Side::Bundle | Side::Call => put_named(out, at, &IN_BUNDLE, place as u64),
     }
-    put_named(out, at, &IN_BUNDLE, place as u64)
 }
 
 // "A refusal prints one line, as `refused 8 in bundle at 3`, or `in rules`."
 pub fn refusal_line(out: &mut [u8; ROOM], refusal: Refusal) -> usize
     ensures { Line out.old (refusal_line refusal) result out.new }
 {
-    let a = put_named(out, 0, &REFUSED, refusal.number as u64);
+    let a = put_named(out, 0, &REFUSED, u32::from(refusal.fault) as u64);
     let b = put_place(out, a, refusal.side, refusal.place);
     put_word(out, b, &NEWLINE)
 }

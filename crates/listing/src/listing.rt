@@ -1,40 +1,42 @@
 // Which line of the listing is which: the counts and then a line a fact, or the one line of a refusal.
 ghost use Rattle.std.specs.Prelude.{◌≡◌};
-ghost use Rattle.operations.specs.Promises.{counted_told};
 ghost use Rattle.listing.specs.Lines.{Line};
 ghost use Rattle.listing.specs.Listing.{lines_of, line_at, Within};
 
 use crate::lines::{ROOM, counts_line, fact_line, refusal_line};
-use operations::Counted;
+use clashes::{Counts, Judged};
+use number::Answer;
 
-pub fn count_lines(counted: Counted) -> usize
-    ensures { result ≡ lines_of (counted_told counted) }
+pub fn count_lines(counted: Answer<Counts>) -> usize
+    ensures { result ≡ lines_of counted }
 {
-    let Counted::Counts(c) = counted else {
-        return 1;
-    };
-    c.facts as usize + 1
+    match counted {
+        Ok(c) => c.facts as usize + 1,
+        Err(_) => 1,
+    }
 }
 
 // The line of this number, at the start of a lent line; the answer is its length.
+#[tactic(auto, unfolding(crate::specs::Listing::line_at))]
 pub fn write_line(
     out: &mut [u8; ROOM],
-    counted: Counted,
+    counted: Answer<Counts>,
     marks: &[u8],
     partners: &[u16],
     number: usize,
 ) -> usize
     requires { Within marks.now partners.now number }
-    ensures { Line out.old (line_at (counted_told counted) marks.now partners.now number) result out.new }
+    ensures { Line out.old (line_at counted marks.now partners.now number) result out.new }
 {
     match counted {
-        Counted::Counts(c) => {
+        Ok(c) => {
             if number == 0 {
                 return counts_line(out, c);
             }
             let fact = number - 1;
-            fact_line(out, fact, marks[fact], partners[fact])
+            let judged = Judged::new(marks[fact] as u32, partners[fact] as u32);
+            fact_line(out, fact, judged)
         }
-        Counted::Refused(r) => refusal_line(out, r),
+        Err(r) => refusal_line(out, r),
     }
 }

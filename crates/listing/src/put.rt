@@ -1,4 +1,6 @@
 // Words and decimal numbers put into a lent line, each at a place, each answering the place after it.
+#![tactic(auto, using(crate::proofs::OfPutting::putting))]
+
 ghost use Rattle.std.specs.Prelude.{◌+◌, ◌≤◌, length};
 ghost use Rattle.listing.specs.Put.{Laid, LaidNumber, LaidNamed};
 
@@ -20,14 +22,9 @@ pub fn put_word(out: &mut [u8], at: usize, word: &[u8]) -> usize
     requires { at + length word.now ≤ length out.old }
     ensures { Laid out.old at word.now result out.new }
 {
-    let mut p = at;
-    let mut i = 0;
-    while i < word.len() {
-        out[p] = word[i];
-        p += 1;
-        i += 1;
-    }
-    p
+    let end = at + word.len();
+    out[at..end].copy_from_slice(word);
+    end
 }
 
 // A word, and the number that it names.

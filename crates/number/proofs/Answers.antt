@@ -4,80 +4,80 @@ use mathlib.Core.Bool.{Bool, true, false, cond}
 use native.Mathlib.Omega.{arith}
 use Prim.Native.Nat.{ℕ}
 use Rattle.number.specs.Answer.{Answer, ◌then◌, over, about}
-use Rattle.number.specs.Answer.Answer.{gives, refuses}
+use Rattle.std.specs.Prelude.{Ok, Err}
 use Rattle.number.specs.declared.refusal.Refusal.{Refusal}
 
-pub never : {A : Type 0} {x : A} {r : Refusal} → refuses r ≡ gives x → ⊥
+pub never : {A : Type 0} {x : A} {r : Refusal} → Err r ≡ Ok x → ⊥
 never e = let z : ◌≡◌ {A = ℕ} 0 1 = cc in omega arith
 
-pub given_once : {A : Type 0} {x y : A} → gives x ≡ gives y → x ≡ y
+pub given_once : {A : Type 0} {x y : A} → ◌≡◌ {A = Answer A} (Ok x) (Ok y) → x ≡ y
 given_once e = cc
 
-pub same_refused : {A : Type 0} {q r : Refusal} → ◌≡◌ {A = Answer A} (refuses q) (refuses r) → q ≡ r
+pub same_refused : {A : Type 0} {q r : Refusal} → ◌≡◌ {A = Answer A} (Err q) (Err r) → q ≡ r
 same_refused e = cc
 
 -- what is given about an item is given as it is
-pub about_given : {A : Type 0} (k : ℕ) (a : Answer A) {x : A} → about k a ≡ gives x → a ≡ gives x
-about_given k (gives v) e = e
-about_given k (refuses r) e = absurd (never e)
+pub about_given : {A : Type 0} (k : ℕ) (a : Answer A) {x : A} → about k a ≡ Ok x → a ≡ Ok x
+about_given k (Ok v) e = e
+about_given k (Err r) e = absurd (never e)
 
 module _ {A : Type 0} where
   -- what went on was given
   pub record Went {B : Type 0} (a : Answer A) (k : A → Answer B) (x : B) : Type 0 where
     pub value : A
-    pub first : a ≡ gives value
-    pub rest : k value ≡ gives x
+    pub first : a ≡ Ok value
+    pub rest : k value ≡ Ok x
 
-  pub went : {B : Type 0} (a : Answer A) (k : A → Answer B) {x : B} → (a then k) ≡ gives x → Went a k x
-  went (gives v) k e = record { value = v; first = refl; rest = e }
-  went (refuses r) k e = absurd (never e)
+  pub went : {B : Type 0} (a : Answer A) (k : A → Answer B) {x : B} → (a then k) ≡ Ok x → Went a k x
+  went (Ok v) k e = record { value = v; first = refl; rest = e }
+  went (Err r) k e = absurd (never e)
 
   -- what did not go on was refused, first or after
   pub data Halts {B : Type 0} (a : Answer A) (k : A → Answer B) (r : Refusal) : Type 0 where
-    at_first : a ≡ refuses r → Halts a k r
-    at_rest : (value : A) → a ≡ gives value → k value ≡ refuses r → Halts a k r
+    at_first : a ≡ Err r → Halts a k r
+    at_rest : (value : A) → a ≡ Ok value → k value ≡ Err r → Halts a k r
 
-  pub halts : {B : Type 0} (a : Answer A) (k : A → Answer B) (r : Refusal) → (a then k) ≡ refuses r → Halts a k r
-  halts (gives v) k r e = at_rest v refl e
-  halts (refuses q) k r e = at_first (ap refuses (same_refused e))
+  pub halts : {B : Type 0} (a : Answer A) (k : A → Answer B) (r : Refusal) → (a then k) ≡ Err r → Halts a k r
+  halts (Ok v) k r e = at_rest v refl e
+  halts (Err q) k r e = at_first (ap Err (same_refused e))
 
   -- a test that went on passed
   pub record Passed (b : Bool) (a : Answer A) (x : A) : Type 0 where
     pub test : b ≡ true
-    pub answer : a ≡ gives x
+    pub answer : a ≡ Ok x
 
-  pub passed : (b : Bool) (a : Answer A) (r : Refusal) {x : A} → cond b a (refuses r) ≡ gives x → Passed b a x
+  pub passed : (b : Bool) (a : Answer A) (r : Refusal) {x : A} → cond b a (Err r) ≡ Ok x → Passed b a x
   passed true a r e = record { test = refl; answer = e }
   passed false a r e = absurd (never e)
 
   pub record Failed (b : Bool) (a : Answer A) (x : A) : Type 0 where
     pub test : b ≡ false
-    pub answer : a ≡ gives x
+    pub answer : a ≡ Ok x
 
-  pub not_stopped : (b : Bool) (a : Answer A) (r : Refusal) {x : A} → cond b (refuses r) a ≡ gives x → Failed b a x
+  pub not_stopped : (b : Bool) (a : Answer A) (r : Refusal) {x : A} → cond b (Err r) a ≡ Ok x → Failed b a x
   not_stopped false a r e = record { test = refl; answer = e }
   not_stopped true a r e = absurd (never e)
 
   -- an answer told in other words was given
   pub record Over {B : Type 0} (f : A → B) (a : Answer A) (y : B) : Type 0 where
     pub value : A
-    pub given : a ≡ gives value
+    pub given : a ≡ Ok value
     pub told : f value ≡ y
 
-  pub over_given : {B : Type 0} (f : A → B) (a : Answer A) {y : B} → over f a ≡ gives y → Over f a y
-  over_given f (gives v) e = record { value = v; given = refl; told = given_once e }
-  over_given f (refuses r) e = absurd (never e)
+  pub over_given : {B : Type 0} (f : A → B) (a : Answer A) {y : B} → over f a ≡ Ok y → Over f a y
+  over_given f (Ok v) e = record { value = v; given = refl; told = given_once e }
+  over_given f (Err r) e = absurd (never e)
 
-  pub over_refused : {B : Type 0} (f : A → B) (a : Answer A) {r : Refusal} → over f a ≡ refuses r → a ≡ refuses r
-  over_refused f (gives v) e = absurd (never (sym e))
-  over_refused f (refuses q) e = ap refuses (same_refused e)
+  pub over_refused : {B : Type 0} (f : A → B) (a : Answer A) {r : Refusal} → over f a ≡ Err r → a ≡ Err r
+  over_refused f (Ok v) e = absurd (never (sym e))
+  over_refused f (Err q) e = ap Err (same_refused e)
 
   -- what holds of all that an answer gives
   module _ (P : A → Type 0) where
     abbrev pub Given : Answer A → Type 0
-    Given a = (x : A) → a ≡ gives x → P x
+    Given a = (x : A) → a ≡ Ok x → P x
 
-    pub given_gives : (a : A) → P a → Given (gives a)
+    pub given_gives : (a : A) → P a → Given (Ok a)
     given_gives a p x e = rw (given_once e) at p
 
     pub given_test : (t : Bool) (a b : Answer A) → Given a → Given b → Given (cond t a b)
@@ -85,11 +85,11 @@ module _ {A : Type 0} where
     given_test false a b first other = other
 
 module _ {A B : Type 0} where
-  pub given_then : (P : B → Type 0) (a : Answer A) (k : A → Answer B) → ((x : A) → a ≡ gives x → Given P (k x)) → Given P (a then k)
-  given_then P (gives v) k rest = rest v refl
-  given_then P (refuses r) k rest = λ x e. absurd (never e)
+  pub given_then : (P : B → Type 0) (a : Answer A) (k : A → Answer B) → ((x : A) → a ≡ Ok x → Given P (k x)) → Given P (a then k)
+  given_then P (Ok v) k rest = rest v refl
+  given_then P (Err r) k rest = λ x e. absurd (never e)
 
   -- answers that are the same as far as they go
-  pub then_same : (a : Answer A) (k k' : A → Answer B) → ((x : A) → a ≡ gives x → k x ≡ k' x) → (a then k) ≡ (a then k')
-  then_same (gives x) k k' same = same x refl
-  then_same (refuses r) k k' same = refl
+  pub then_same : (a : Answer A) (k k' : A → Answer B) → ((x : A) → a ≡ Ok x → k x ≡ k' x) → (a then k) ≡ (a then k')
+  then_same (Ok x) k k' same = same x refl
+  then_same (Err r) k k' same = refl

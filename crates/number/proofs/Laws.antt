@@ -8,18 +8,18 @@ use lib.Seq.{drop-append_seam, drop-drop, get_or-drop, take_at, take-nil, take-t
 use lib.Dec.{ltb, leb, eqb}
 use native.Mathlib.Omega.{arith}
 use borrow.Author.Tests.{lt-ltb, le-ltb, le-leb, ne_eqb, ltb-true, ltb-false, leb-true, eqb-false}
-use Rattle.number.specs.Answer.{Answer, Read, refusal, no_item}
-use Rattle.number.specs.Answer.Answer.{gives, refuses}
+use Rattle.number.specs.Answer.{Answer, refusal, number_of}
+use Rattle.std.specs.Prelude.{Ok, Err, None}
 use Rattle.number.specs.Number.{Form, ending, third, second, form_of, judged, judge_at, number_at, bytes_of, three_bytes}
 use Rattle.number.specs.Number.Form.{whole, fault}
-use Rattle.number.specs.Told.{told, told_wrote, Writes}
+use Rattle.number.specs.Told.{Writes}
 use Rattle.number.specs.declared.refusal.Refusal.{Refusal}
-use Rattle.number.specs.declared.read.Num.{Num}
-use Rattle.number.specs.declared.read.Num.TheVariants.{Value, Refused}
-use Rattle.number.specs.declared.write.Wrote.{Wrote}
-use Rattle.number.specs.declared.write.Wrote.TheVariants.{Next, Refused as Stopped}
+use Rattle.number.specs.declared.read.Read.{Read}
+use Rattle.number.specs.declared.refusal.Fault.{Fault}
+use Rattle.number.specs.declared.refusal.Fault.TheVariants.{Cut, Long, Over}
+use Rattle.number.specs.declared.refusal.Side.{Side}
 use Rattle.number.proofs.Answers.{never, given_once, same_refused}
-use Rattle.number.proofs.One.{one, undone, Same}
+use Rattle.number.proofs.One.{one, Same}
 use Rattle.number.proofs.Writing.{picked, by_form, sized, size_1, bytes_1, bytes_2, bytes_3}
 
 -- every element is a byte
@@ -76,8 +76,8 @@ module _ (v : ℕ) where
         (ap (λ n. whole n 3) (omega arith)))
 
     -- what is written is read back, whatever stands before it and after it
-    pub reads_back : (before after : List ℕ) (most side : ℕ) → v ≤ most
-        → number_at (before ++ (bytes_of v ++ after)) (length before) most side ≡ gives (record { value = v; next = length before + length (bytes_of v) })
+    pub reads_back : (before after : List ℕ) (most : ℕ) (side : Side) → v ≤ most
+        → number_at (before ++ (bytes_of v ++ after)) (length before) most side ≡ Ok (record { value = v; next = length before + length (bytes_of v) })
     unfolding number_at
     reads_back before after most side h = rw (drop-append_seam before (bytes_of v ++ after), form_back after, le-leb v most h)
 
@@ -96,7 +96,7 @@ record Formed (s : List ℕ) (v n : ℕ) : Type 0 where
 
 -- what stands at the head of some bytes
 data Stands (s : List ℕ) (f : Form) : Type 0 where
-  faulty : (k : ℕ) → 1 ≤ k → k ≤ 3 → f ≡ fault k → Stands s f
+  faulty : (k : Fault) → 1 ≤ number_of k → number_of k ≤ 3 → f ≡ fault k → Stands s f
   formed : (v n : ℕ) → Formed s v n → f ≡ whole v n → Stands s f
 
 written_as : (v n : ℕ) (l t : List ℕ) → v ≤ three_bytes → length l ≡ n → bytes_of v ≡ l → Written (l ++ t) v n
@@ -106,7 +106,7 @@ written_as v n l t h k e = record { formed = h; size = rw e (sym k); bytes = rw 
 ended : (s : List ℕ) (last v n : ℕ) → ((last ≡ 0 → ⊥) → Formed s v n) → Stands s (ending last v n)
 ended s last v n form =
     picked (Stands s) _ _ (eqb last 0)
-    (λ t. faulty 2 (omega arith) (omega arith) refl)
+    (λ t. faulty Long (omega arith) (omega arith) refl)
     (λ f. formed v n (form (eqb-false last 0 f)) refl)
 
 one_form_at : (a : ℕ) (t : List ℕ) → a < 128 → Formed (a ∷ t) a 1
@@ -157,15 +157,15 @@ three_form_at a b c t h k l z =
 
 third_stands : (a b : ℕ) (s : List ℕ) → 128 ≤ a → 128 ≤ b → Stands (a ∷ b ∷ s) (third (a - 128 + 128 * (b - 128)) s)
 unfolding third
-third_stands a b [] h k = faulty 1 (omega arith) (omega arith) refl
+third_stands a b [] h k = faulty Cut (omega arith) (omega arith) refl
 third_stands a b (c ∷ t) h k =
     picked (Stands (a ∷ b ∷ c ∷ t)) _ _ (ltb c 128)
     (λ l. ended _ c _ 3 (three_form_at a b c t h k (ltb-true c 128 l)))
-    (λ l. faulty 3 (omega arith) (omega arith) refl)
+    (λ l. faulty Over (omega arith) (omega arith) refl)
 
 second_stands : (a : ℕ) (s : List ℕ) → 128 ≤ a → Stands (a ∷ s) (second (a - 128) s)
 unfolding second
-second_stands a [] h = faulty 1 (omega arith) (omega arith) refl
+second_stands a [] h = faulty Cut (omega arith) (omega arith) refl
 second_stands a (b ∷ t) h =
     picked (Stands (a ∷ b ∷ t)) _ _ (ltb b 128)
     (λ l. ended _ b _ 2 (two_form_at a b t h (ltb-true b 128 l)))
@@ -173,7 +173,7 @@ second_stands a (b ∷ t) h =
 
 stands : (s : List ℕ) → Stands s (form_of s)
 unfolding form_of
-stands [] = faulty 1 (omega arith) (omega arith) refl
+stands [] = faulty Cut (omega arith) (omega arith) refl
 stands (a ∷ s) =
     picked (Stands (a ∷ s)) _ _ (ltb a 128)
     (λ l. formed a 1 (one_form_at a s (ltb-true a 128 l)) refl)
@@ -200,21 +200,21 @@ pub record OneForm (s : List ℕ) (at v next : ℕ) : Type 0 where
   pub rest : drop at s ≡ bytes_of v ++ drop next s
   pub bytes : take (next - at) (drop at s) ≡ bytes_of v
 
-module _ (s : List ℕ) (at most side v next : ℕ) where
-  judged_accepts : (w n : ℕ) → Formed (drop at s) w n → judged w (at + n) at most side ≡ gives (record { value = v; next = next }) → Accepts s at most v next
+module _ (s : List ℕ) (at most : ℕ) (side : Side) (v next : ℕ) where
+  judged_accepts : (w n : ℕ) → Formed (drop at s) w n → judged w (at + n) at most side ≡ Ok (record { value = v; next = next }) → Accepts s at most v next
   judged_accepts w n form =
-      picked (λ a. a ≡ gives (record { value = v; next = next }) → Accepts s at most v next) _ _ (leb w most)
+      picked (λ a. a ≡ Ok (record { value = v; next = next }) → Accepts s at most v next) _ _ (leb w most)
       (λ t e.
       let read : record { value = w; next = at + n } ≡ record { value = v; next = next } = given_once e in
       let is-v : w ≡ v = ap (λ r. r.value) read in
       record { size = n; form = rw is-v at form; place = sym (ap (λ r. r.next) read); within = rw is-v at (leb-true w most t) })
       (λ f e. absurd (never e))
 
-  accepts : (f : Form) → Stands (drop at s) f → judge_at at most side f ≡ gives (record { value = v; next = next }) → Accepts s at most v next
+  accepts : (f : Form) → Stands (drop at s) f → judge_at at most side f ≡ Ok (record { value = v; next = next }) → Accepts s at most v next
   accepts f (faulty k low high is) e = absurd (never (rw is at e))
   accepts f (formed w n form is) e = judged_accepts w n form (rw is at e)
 
-  module _ (e : number_at s at most side ≡ gives (record { value = v; next = next })) where
+  module _ (e : number_at s at most side ≡ Ok (record { value = v; next = next })) where
     acceptance : Accepts s at most v next
     unfolding number_at
     acceptance = accepts (form_of (drop at s)) (stands (drop at s)) e
@@ -246,28 +246,28 @@ module _ (s : List ℕ) (at most side v next : ℕ) where
     one_byte bytes low = omega (arith, (one_form bytes).size, size_1 v low)
 
 -- a refused number: the side that was given, the number's first byte, and 1, 2 or 3
-pub record RefusedHow (at side : ℕ) (r : Refusal) : Type 0 where
+pub record RefusedHow (at : ℕ) (side : Side) (r : Refusal) : Type 0 where
   pub side_given : r.side ≡ side
   pub first_byte : r.place ≡ at
-  pub low : 1 ≤ r.number
-  pub high : r.number ≤ 3
-  pub of_none : r.item ≡ no_item
+  pub low : 1 ≤ number_of r.fault
+  pub high : number_of r.fault ≤ 3
+  pub of_none : r.item ≡ None
 
-module _ (at most side : ℕ) (r : Refusal) where
-  by_number : (n : ℕ) → 1 ≤ n → n ≤ 3 → ◌≡◌ {A = Answer (Read ℕ)} (refuses (refusal n side at)) (refuses r) → RefusedHow at side r
+module _ (at most : ℕ) (side : Side) (r : Refusal) where
+  by_number : (n : Fault) → 1 ≤ number_of n → number_of n ≤ 3 → ◌≡◌ {A = Answer (Read ℕ)} (Err (refusal n side at)) (Err r) → RefusedHow at side r
   by_number n low high e =
       let how : RefusedHow at side (refusal n side at) = record { side_given = refl; first_byte = refl; low = low; high = high; of_none = refl } in
       rw (same_refused e) at how
 
-  form_refused : {s : List ℕ} (f : Form) → Stands s f → judge_at at most side f ≡ refuses r → RefusedHow at side r
+  form_refused : {s : List ℕ} (f : Form) → Stands s f → judge_at at most side f ≡ Err r → RefusedHow at side r
   form_refused f (faulty k low high is) e = by_number k low high (rw is at e)
   form_refused f (formed v n form is) e =
-      picked (λ a. a ≡ refuses r → RefusedHow at side r) _ _ (leb v most)
+      picked (λ a. a ≡ Err r → RefusedHow at side r) _ _ (leb v most)
       (λ t given. absurd (never (sym given)))
-      (λ t given. by_number 3 (omega arith) (omega arith) given)
+      (λ t given. by_number Over (omega arith) (omega arith) given)
       (rw is at e)
 
-  pub refused_how : (s : List ℕ) → number_at s at most side ≡ refuses r → RefusedHow at side r
+  pub refused_how : (s : List ℕ) → number_at s at most side ≡ Err r → RefusedHow at side r
   unfolding number_at
   refused_how s e = form_refused (form_of (drop at s)) (stands (drop at s)) e
 
@@ -279,7 +279,7 @@ first_three (a ∷ []) = refl
 first_three (a ∷ b ∷ []) = refl
 first_three (a ∷ b ∷ c ∷ s) = refl
 
-module _ (s t : List ℕ) (at most side : ℕ) where
+module _ (s t : List ℕ) (at most : ℕ) (side : Side) where
   pub from_three_bytes : take 3 (drop at s) ≡ take 3 (drop at t) → number_at s at most side ≡ number_at t at most side
   unfolding number_at
   from_three_bytes e = ap (judge_at at most side) (first_three (drop at s) ∙ ap form_of e ∙ sym (first_three (drop at t)))
@@ -301,30 +301,13 @@ module _ (s t : List ℕ) (n : ℕ) (agree : take n s ≡ take n t) (at : ℕ) (
       ∙ ap (drop at) (sym (take-take (at + 3) n s here) ∙ ap (take (at + 3)) agree ∙ take-take (at + 3) n t here)
       ∙ window at 3 (at + 3) t refl
 
-  pub same_number : (most side : ℕ) → number_at s at most side ≡ number_at t at most side
+  pub same_number : (most : ℕ) (side : Side) → number_at s at most side ≡ number_at t at most side
   same_number most side = from_three_bytes s t at most side same_window
 
-read_back : Answer (Read ℕ) → Num
-read_back (gives r) = Value r.value r.next
-read_back (refuses r) = Refused r
-
-pub told_apart : (r r' : Num) → told r ≡ told r' → r ≡ r'
-unfolding read_back
-told_apart = undone told read_back (elim [ Value v next ↦ refl | Refused r ↦ refl ])
-
-wrote_back : Answer ℕ → Wrote
-wrote_back (gives next) = Next next
-wrote_back (refuses r) = Stopped r
-
-pub told_wrote_apart : (w w' : Wrote) → told_wrote w ≡ told_wrote w' → w ≡ w'
-unfolding wrote_back
-told_wrote_apart = undone told_wrote wrote_back (elim [ Next next ↦ refl | Stopped r ↦ refl ])
-
 -- reading and writing leave one answer only
-pub one_reading : (r r' : Num) (s : List ℕ) (at most side : ℕ) → told r ≡ number_at s at most side → told r' ≡ number_at s at most side → r ≡ r'
-one_reading r r' s at most side e e' = told_apart r r' (one e e')
+pub one_reading : (r r' : Answer (Read ℕ)) (s : List ℕ) (at most : ℕ) (side : Side) → r ≡ number_at s at most side → r' ≡ number_at s at most side → r ≡ r'
+one_reading r r' s at most side e e' = one e e'
 
-pub one_answer : (out : List ℕ) (at value most : ℕ) (r r₂ : Wrote) (out' out₂' : List ℕ)
+pub one_answer : (out : List ℕ) (at value most : ℕ) (r r₂ : Answer ℕ) (out' out₂' : List ℕ)
     → Writes out at value most r out' → Writes out at value most r₂ out₂' → Same r r₂ out' out₂'
-one_answer out at value most r r₂ out' out₂' w w₂ =
-    record { answer = told_wrote_apart r r₂ (one w.answer w₂.answer); memory = one w.memory w₂.memory }
+one_answer out at value most r r₂ out' out₂' w w₂ = record { answer = one w.answer w₂.answer; memory = one w.memory w₂.memory }

@@ -10,11 +10,13 @@ use native.Mathlib.Omega.{arith}
 use borrow.Author.Tests.{lt-ltb, le-ltb, le-leb, lt-leb, ltb-true, ltb-false}
 use borrow.Author.Rules.{rules}
 use Rattle.number.specs.Answer.{refusal}
-use Rattle.number.specs.Answer.Answer.{gives, refuses}
+use Rattle.number.specs.declared.refusal.Refusal.{Refusal}
+use Rattle.std.specs.Prelude.{Ok, Err}
 use Rattle.number.specs.Number.{bytes_of, plan, three_bytes}
 use Rattle.number.specs.Told.{Writes, Stores, Stored}
-use Rattle.number.specs.declared.write.Wrote.{Wrote}
-use Rattle.number.specs.declared.write.Wrote.TheVariants.{Next, Refused}
+use Rattle.number.specs.declared.refusal.Fault.{Fault}
+use Rattle.number.specs.declared.refusal.Fault.TheVariants.{Over, Room}
+use Rattle.number.specs.declared.refusal.Side.TheVariants.{Call}
 
 -- what holds of either holds of the one that the test picks
 pub picked : {A : Type 0} (P : A → Type 0) (x y : A) (t : Bool) → (t ≡ true → P x) → (t ≡ false → P y) → P (cond t x y)
@@ -88,37 +90,37 @@ module _ (out : List ℕ) (at v : ℕ) (fits : Stores out at v) where
 
 -- the tests of `write_number`, in their order
 module _ (out : List ℕ) (at v most : ℕ) where
-  refused : (n : ℕ) → plan (length out) at v most ≡ refuses (refusal n 2 0) → (r : Wrote) → r ≡ Refused (refusal n 2 0) → Writes out at v most r out
+  refused : (n : Fault) → plan (length out) at v most ≡ Err (refusal n Call 0) → (r : Refusal) → r ≡ refusal n Call 0 → Writes out at v most (Err r) out
   refused n p r e = record { answer = rw (p, e); memory = rw p }
 
-  pub over_most : most < v → (r : Wrote) → r ≡ Refused (refusal 3 2 0) → Writes out at v most r out
+  pub over_most : most < v → (r : Refusal) → r ≡ refusal Over Call 0 → Writes out at v most (Err r) out
   unfolding plan
-  over_most h = refused 3 (rw (lt-leb v most h))
+  over_most h = refused Over (rw (lt-leb v most h))
 
   module _ (within : v ≤ most) where
-    pub over_forms : three_bytes < v → (r : Wrote) → r ≡ Refused (refusal 3 2 0) → Writes out at v most r out
+    pub over_forms : three_bytes < v → (r : Refusal) → r ≡ refusal Over Call 0 → Writes out at v most (Err r) out
     unfolding plan
-    over_forms h = refused 3 (rw (le-leb v most within, lt-leb v three_bytes h))
+    over_forms h = refused Over (rw (le-leb v most within, lt-leb v three_bytes h))
 
     module _ (formed : v ≤ three_bytes) where
-      no_room : length out < at + length (bytes_of v) → plan (length out) at v most ≡ refuses (refusal 9 2 0)
+      no_room : length out < at + length (bytes_of v) → plan (length out) at v most ≡ Err (refusal Room Call 0)
       unfolding plan
       no_room h = rw (le-leb v most within, le-leb v three_bytes formed, lt-leb (at + length (bytes_of v)) (length out) h)
 
-      pub past_end : length out < at → (r : Wrote) → r ≡ Refused (refusal 9 2 0) → Writes out at v most r out
-      past_end h = refused 9 (no_room (omega arith))
+      pub past_end : length out < at → (r : Refusal) → r ≡ refusal Room Call 0 → Writes out at v most (Err r) out
+      past_end h = refused Room (no_room (omega arith))
 
       module _ (n : ℕ) (is-size : n ≡ length (bytes_of v)) (inside : at ≤ length out) where
-        pub too_short : length out - at < n → (r : Wrote) → r ≡ Refused (refusal 9 2 0) → Writes out at v most r out
-        too_short h = refused 9 (no_room (omega arith))
+        pub too_short : length out - at < n → (r : Refusal) → r ≡ refusal Room Call 0 → Writes out at v most (Err r) out
+        too_short h = refused Room (no_room (omega arith))
 
         pub fits : n ≤ length out - at → Stores out at v
         fits h = record { formed = formed; room = omega arith }
 
-        pub written : n ≤ length out - at → (next : ℕ) (out' : List ℕ) → Stored out at v next out' → Writes out at v most (Next next) out'
+        pub written : n ≤ length out - at → (next : ℕ) (out' : List ℕ) → Stored out at v next out' → Writes out at v most (Ok next) out'
         unfolding plan
         written h next out' st =
-            let planned : plan (length out) at v most ≡ gives (bytes_of v) =
+            let planned : plan (length out) at v most ≡ Ok (bytes_of v) =
             rw (le-leb v most within, le-leb v three_bytes formed, le-leb (at + length (bytes_of v)) (length out) (omega arith)) in
             record { answer = rw (planned, st.place); memory = rw planned st.memory }
 

@@ -5,6 +5,6 @@ mod read;
 mod refusal;
 mod write;
 
-pub use read::{Num, read_number};
-pub use refusal::Refusal;
-pub use write::{Wrote, size_of_number, write_number};
+pub use read::{MOST, Read, read_number};
+pub use refusal::{Answer, Fault, Refusal, Side, about};
+pub use write::{THREE_BYTES, size_of_number, write_number};

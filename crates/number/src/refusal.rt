@@ -1,72 +1,112 @@
-// The refusal of document 01's table, by value: its number, its side, its place and the item there.
+// The refusal of document 01's table, by value: what is at fault, on which side, at which place, and in which item.
 ghost use Rattle.std.specs.Prelude.{◌≡◌};
-ghost use Rattle.number.specs.Answer.{of_item};
+ghost use Rattle.number.specs.Answer.{refusal, of_item, about, number_of, side_of};
 
-#[derive(Clone, Copy)]
-pub struct Refusal {
-    pub number: u32,
-    pub side: u32,
-    pub place: usize,
-    pub item: u32,
+// What is at fault: a line of document 01's table.
+#[derive(Clone, Copy, PartialEq, Eq)]
+pub enum Fault {
+    Cut,
+    Long,
+    Over,
+    Count,
+    Unknown,
+    Broken,
+    After,
+    Order,
+    Room,
+    NoFact,
+    Kind,
+    Object,
 }
 
-impl Refusal {
-    // The numbers of document 01's table.
-    pub const CUT: u32 = 1;
+// "side (0 rules, 1 bundle, 2 the call's own arguments)"
+#[derive(Clone, Copy, PartialEq, Eq)]
+pub enum Side {
+    Rules,
+    Bundle,
+    Call,
+}
 
-    pub const LONG: u32 = 2;
+// The fault's number in the table.
+impl From<Fault> for u32 {
+    ghost from_gives = { λ fault n. n ≡ number_of fault };
 
-    pub const OVER: u32 = 3;
-
-    pub const COUNT: u32 = 4;
-
-    pub const UNKNOWN: u32 = 5;
-
-    pub const BROKEN: u32 = 6;
-
-    pub const AFTER: u32 = 7;
-
-    pub const ORDER: u32 = 8;
-
-    pub const ROOM: u32 = 9;
-
-    pub const NO_FACT: u32 = 10;
-
-    pub const KIND: u32 = 11;
-
-    pub const OBJECT: u32 = 12;
-    // Its sides.
-    pub const RULES: u32 = 0;
-
-    pub const BUNDLE: u32 = 1;
-
-    pub const CALL: u32 = 2;
-    // "65,535 in the header and after the last item", and where there is no item at all.
-    pub const NO_ITEM: u32 = 65535;
-    // What stands in the place of a refusal where there is none.
-    pub const NONE: Refusal = Refusal {
-        number: 0,
-        side: 0,
-        place: 0,
-        item: 0,
-    };
-    // 9, "a lent output is too short", at place 0 of the call's own arguments.
-    pub const NO_ROOM: Refusal = Refusal {
-        number: Refusal::ROOM,
-        side: Refusal::CALL,
-        place: 0,
-        item: Refusal::NO_ITEM,
-    };
-
-    // The same refusal, about an item: the number of the rule or fact there.
-    pub fn of_item(self, item: u32) -> Refusal
-        ensures { result ≡ of_item item self }
-    {
-        Refusal {
-            number: self.number,
-            side: self.side,
-            place: self.place,
-            item,
+    fn from(fault: Fault) -> u32 {
+        match fault {
+            Fault::Cut => 1,
+            Fault::Long => 2,
+            Fault::Over => 3,
+            Fault::Count => 4,
+            Fault::Unknown => 5,
+            Fault::Broken => 6,
+            Fault::After => 7,
+            Fault::Order => 8,
+            Fault::Room => 9,
+            Fault::NoFact => 10,
+            Fault::Kind => 11,
+            Fault::Object => 12,
         }
     }
+}
+
+// The side's number.
+impl From<Side> for u32 {
+    ghost from_gives = { λ side n. n ≡ side_of side };
+
+    fn from(side: Side) -> u32 {
+        match side {
+            Side::Rules => 0,
+            Side::Bundle => 1,
+            Side::Call => 2,
+        }
+    }
+}
+
+#[derive(Clone, Copy, PartialEq, Eq)]
+pub struct Refusal {
+    pub fault: Fault,
+    pub side: Side,
+    pub place: usize,
+    pub item: Option<u32>,
+}
+
+// What was asked for, or a refusal.
+pub type Answer<T> = Result<T, Refusal>;
+
+impl Refusal {
+    // A refusal that is about no item.
+    pub fn new(fault: Fault, side: Side, place: usize) -> Self
+        ensures { result ≡ refusal fault side place }
+    {
+        Self {
+            fault,
+            side,
+            place,
+            item: None,
+        }
+    }
+
+    // A refusal of the call's own arguments, at place 0.
+    pub fn of_call(fault: Fault) -> Self
+        ensures { result ≡ refusal fault Side.Call 0 }
+    {
+        Self::new(fault, Side::Call, 0)
+    }
+
+    // The same refusal, about an item: the number of the rule or fact there.
+    pub fn of_item(self, item: u32) -> Self
+        ensures { result ≡ of_item item self }
+    {
+        Self {
+            item: Some(item),
+            ..self
+        }
+    }
+}
+
+// An answer about an item: if it is a refusal, it says which item.
+pub fn about<T>(answer: Answer<T>, item: u32) -> Answer<T>
+    ensures { result ≡ about item answer }
+{
+    answer.map_err(|r| r.of_item(item))
 }

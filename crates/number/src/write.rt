@@ -1,29 +1,14 @@
 // Writing one number at a place of lent memory.
+#![tactic(auto, using(crate::proofs::Writing::writing))]
+
 ghost use Rattle.std.specs.Prelude.{◌≡◌, length};
-ghost use Rattle.number.specs.Answer.{refusal};
 ghost use Rattle.number.specs.Number.{bytes_of};
 ghost use Rattle.number.specs.Told.{Writes, Stores, Stored};
 
-use crate::read::Num;
-use crate::refusal::Refusal;
+use crate::refusal::{Answer, Fault, Refusal};
 
-// What writing a number finds: the place after it, or the refusal.
-#[derive(Clone, Copy)]
-pub enum Wrote {
-    Next(usize),
-    Refused(Refusal),
-}
-
-fn refuse(number: u32) -> Wrote
-    ensures { result ≡ Wrote.Refused (refusal number 2 0) }
-{
-    Wrote::Refused(Refusal {
-        number,
-        side: Refusal::CALL,
-        place: 0,
-        item: Refusal::NO_ITEM,
-    })
-}
+// The largest value that three groups of seven bits hold.
+pub const THREE_BYTES: u32 = 2097151;
 
 // How many bytes a number's form has.
 pub fn size_of_number(value: u32) -> usize
@@ -59,20 +44,20 @@ fn store(out: &mut [u8], at: usize, value: u32) -> usize
     q + 1
 }
 
-pub fn write_number(out: &mut [u8], at: usize, value: u32, most: u32) -> Wrote
+pub fn write_number(out: &mut [u8], at: usize, value: u32, most: u32) -> Answer<usize>
     ensures { Writes out.old at value most result out.new }
 {
     if most < value {
-        return refuse(Refusal::OVER);
+        return Err(Refusal::of_call(Fault::Over));
     }
-    if Num::FORMS < value {
-        return refuse(Refusal::OVER);
+    if THREE_BYTES < value {
+        return Err(Refusal::of_call(Fault::Over));
     }
     if out.len() < at {
-        return refuse(Refusal::ROOM);
+        return Err(Refusal::of_call(Fault::Room));
     }
     if out.len() - at < size_of_number(value) {
-        return refuse(Refusal::ROOM);
+        return Err(Refusal::of_call(Fault::Room));
     }
-    Wrote::Next(store(out, at, value))
+    Ok(store(out, at, value))
 }

@@ -1,13 +1,17 @@
 // What document 01 says of a string, computed from the whole string as one number, and not byte after byte as the reader goes.
-ghost use Rattle.std.specs.Prelude.{◌≤◌};
+ghost use Rattle.std.specs.Prelude.{◌≤◌, IfOk};
 
-// What is expected of a string: a refusal's number, or 0 with the value and its size.
-#[derive(Clone, Copy)]
-pub struct Wanted {
-    pub number: u32,
+use number::Fault;
+
+// A value and how many bytes its string has.
+#[derive(Clone, Copy, PartialEq, Eq)]
+pub struct Valued {
     pub value: u32,
     pub size: usize,
 }
+
+// What is expected of a string: its value, or the fault of its refusal.
+pub type Wanted = Result<Valued, Fault>;
 
 // A string as one number: byte i is digit i to the base 256.
 pub fn digit(word: u32, i: usize) -> u8 {
@@ -60,37 +64,23 @@ fn shortest(value: u32) -> usize {
     3
 }
 
-fn refused(number: u32) -> Wanted
-    ensures { result.size ≤ 3 }
-{
-    Wanted {
-        number,
-        value: 0,
-        size: 0,
-    }
-}
-
 // What document 01 says of a string of so many bytes.
 pub fn expected(word: u32, length: usize) -> Wanted
-    ensures { result.size ≤ 3 }
+    ensures { IfOk result (λ v. v.size ≤ 3) }
 {
     let size = reach(word);
     if 3 < size {
-        return refused(3);
+        return Err(Fault::Over);
     }
     if length < size {
-        return refused(1);
+        return Err(Fault::Cut);
     }
     let value = groups(word, size);
     if shortest(value) < size {
-        return refused(2);
+        return Err(Fault::Long);
     }
     if 65535 < value {
-        return refused(3);
+        return Err(Fault::Over);
     }
-    Wanted {
-        number: 0,
-        value,
-        size,
-    }
+    Ok(Valued { value, size })
 }

@@ -3,16 +3,18 @@ use Prim.Native.Nat.{ℕ, ◌+◌, ◌*◌, ◌≤◌, ◌<◌}
 use mathlib.Core.Path.{◌≡◌, sym, ap, ap₂, ◌∙◌}
 use mathlib.Core.List.{List, [], ◌∷◌, ◌++◌}
 use lib.ListN.{length, length-append}
-use lib.Seq.{sets, length-sets}
+use lib.Seq.{sets}
 use mir.Val.{Fits}
 use mir.Syntax.{w64}
 use native.Mathlib.Omega.{arith}
 use borrow.Author.Tests.{le-leb, lt-leb}
-use borrow.Author.Rules.{rules}
 use Rattle.number.specs.Answer.{refusal}
-use Rattle.number.specs.Answer.Answer.{gives, refuses}
+use Rattle.number.specs.declared.refusal.Refusal.{Refusal}
+use Rattle.std.specs.Prelude.{Ok, Err}
 use Rattle.number.specs.Number.{bytes_of}
-use Rattle.number.specs.Told.{Stores, Stored}
+use Rattle.number.specs.Told.{Stored}
+use Rattle.number.specs.declared.refusal.Fault.TheVariants.{Room}
+use Rattle.number.specs.declared.refusal.Side.TheVariants.{Call}
 use Rattle.number.proofs.Laws.{at_most_three}
 use Rattle.site.specs.declared.fact.Fact.{Fact}
 use Rattle.site.specs.Kinds.{Site}
@@ -25,7 +27,6 @@ use Rattle.bundle.specs.Bundle.{facts_of, fact_bytes, bundle_of}
 use Rattle.bundle.specs.declared.facts.Facts.{Facts}
 use Rattle.bundle.specs.Opened.{Accepted}
 use Rattle.writer.specs.Records.{room_for}
-use Rattle.writer.specs.declared.writing.BundleWrote.TheVariants.{Written, Refused as NotWritten}
 use Rattle.writer.proofs.FactBytes.{sets_append}
 use Rattle.steps.specs.Tables.{Follows, follows_of}
 use Rattle.follows.specs.Tells.{Tells}
@@ -35,7 +36,7 @@ use Rattle.clashes.specs.Coded.{bits_follow}
 use Rattle.clashes.proofs.OfAgreement.{kept_same}
 use Rattle.clean.specs.Keeping.{kept_bytes, measure_of, StoredKept}
 use Rattle.clean.specs.Operations.{keeping}
-use Rattle.clean.specs.declared.keep.Measure.{Measure}
+use Rattle.clean.specs.declared.measure.Measure.{Measure}
 use Rattle.clean.proofs.OfKeeping.{fact_short}
 use Rattle.operations.specs.Promises.{WritesKept, StoresBundle}
 use Rattle.operations.proofs.OfOperations.{as_many, few, given_is, spoken, agree}
@@ -87,41 +88,30 @@ module _ (rules bundle : List ℕ) (h : Head) (b : Facts) (acc : Accepted rules 
         long = omega (arith, is-size, size_is, sym (length-append (bytes_of m.count) (kept_bytes t facts)) ∙ ap (λ (l : List ℕ). length l) bytes)
 
         module _ (out : List ℕ) where
-          pub kept_short : length out < size + m.size → WritesKept rules bundle out (NotWritten (refusal 9 2 0)) out
+          pub kept_short : length out < size + m.size → (q : Refusal) → q ≡ refusal Room Call 0 → WritesKept rules bundle out (Err q) out
           unfolding keeping room_for
-          kept_short short =
-              let e : keeping rules bundle (length out) ≡ refuses (refusal 9 2 0) =
+          kept_short short q is =
+              let e : keeping rules bundle (length out) ≡ Err (refusal Room Call 0) =
               rw (given_is rules bundle h b acc, ← long, lt-leb (size + m.size) (length out) short) in
-              record { answer = rw e; memory = rw e }
+              record { answer = rw (e, is); memory = rw e }
 
           pub kept_done : size + m.size ≤ length out → (out₂ : List ℕ) → out₂ ≡ sets out 0 (bytes_of m.count ++ kept_bytes t facts)
-              → WritesKept rules bundle out (Written (size + m.size)) out₂
+              → WritesKept rules bundle out (Ok (size + m.size)) out₂
           unfolding keeping room_for
           kept_done room out₂ is-out =
-              let e : keeping rules bundle (length out) ≡ gives (bundle_of (kept itself (follows_of site) facts)) =
+              let e : keeping rules bundle (length out) ≡ Ok (bundle_of (kept itself (follows_of site) facts)) =
               rw (given_is rules bundle h b acc, ← long, le-leb (size + m.size) (length out) room) in
-              record { answer = rw e (ap gives long); memory = rw e (is-out ∙ ap (λ (l : List ℕ). sets out 0 l) bytes) }
+              record { answer = rw e (ap Ok long); memory = rw e (is-out ∙ ap (λ (l : List ℕ). sets out 0 l) bytes) }
 
       pub kept_fits : (out : List ℕ) → size + m.size ≤ length out → StoresBundle t bundle b m.count out
       kept_fits out room =
-          record { few = few rules bundle h b acc; formed = omega (arith, count_is, few_kept); room = omega (arith, is-size, size_is) }
+          record { formed = omega (arith, count_is, few_kept); room = omega (arith, is-size, size_is) }
 
 -- storing it
 module _ (t : Follows) (bundle : List ℕ) (b : Facts) (count : ℕ) (out : List ℕ) (fits : StoresBundle t bundle b count out) where
-  pub bundle_few : b.count ≤ most_facts
-  bundle_few = fits.few
-
-  pub count_fits : Stores out 0 count
-  count_fits = record { formed = fits.formed; room = omega (arith, fits.room) }
-
   module _ (p : ℕ) (out₁ : List ℕ) (first : Stored out 0 count p out₁) where
-    pub facts_fit : p + length (kept_bytes t (facts_of bundle b)) ≤ length out₁
-    facts_fit = omega (arith, first.place, fits.room, ap (λ (l : List ℕ). length l) first.memory ∙ length-sets out 0 (bytes_of count))
-
     pub bundle_stored : (q : ℕ) (out₂ : List ℕ) → StoredKept t (facts_of bundle b) out₁ p q out₂ → out₂ ≡ sets out 0 (bytes_of count ++ kept_bytes t (facts_of bundle b))
     bundle_stored q out₂ second =
         second.memory
         ∙ ap₂ (λ (o : List ℕ) (n : ℕ). sets o n (kept_bytes t (facts_of bundle b))) first.memory first.place
         ∙ sym (sets_append (bytes_of count) (kept_bytes t (facts_of bundle b)) out 0)
-
-pub ruleset kept_bundle = (length_fits, kept_short, kept_done, kept_fits, bundle_few, count_fits, facts_fit, bundle_stored, few, rules)

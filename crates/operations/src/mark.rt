@@ -1,120 +1,69 @@
 // Marking a bundle, counting its marks, and asking about one fact.
 ghost use Rattle.std.specs.Prelude.{◌≡◌};
-ghost use Rattle.number.specs.Answer.{refusal};
-ghost use Rattle.bundle.specs.Opened.{Accepted};
 ghost use Rattle.clean.specs.Operations.{counting, asking};
-ghost use Rattle.operations.specs.Promises.{MarksAll, counted_told, asked_told};
+ghost use Rattle.operations.specs.Promises.{MarksAll};
 
-use bundle::{Facts, Opened, open_inputs};
+use crate::files::Files;
+use bundle::FactsOf;
 use clashes::{Counts, Judged};
-use clean::{count_facts, fact_number, judge, mark_facts};
-use follows::fill;
-use number::Refusal;
-use rule::Head;
-use tables::BLANK;
+use follows::Tables;
+use number::{Answer, Fault, Refusal};
 
-// The counts, or the refusal.
-#[derive(Clone, Copy)]
-pub enum Counted {
-    Counts(Counts),
-    Refused(Refusal),
-}
-
-// A fact's mark and partner, or the refusal.
-#[derive(Clone, Copy)]
-pub enum Asked {
-    Judged(Judged),
-    Refused(Refusal),
-}
-
-fn no_room() -> Counted
-    ensures { result ≡ Counted.Refused (refusal 9 2 0) }
-{
-    Counted::Refused(Refusal::NO_ROOM)
-}
-
-fn mark_accepted(
-    rules: &[u8],
-    head: Head,
-    bundle: &[u8],
-    facts: Facts,
-    marks: &mut [u8],
-    partners: &mut [u16],
-) -> Counted
-    requires { Accepted rules.now bundle.now head facts }
-    ensures { MarksAll rules.now bundle.now marks.old partners.old result marks.new partners.new }
-{
-    let count = facts.count as usize;
-    if marks.len() < count {
-        return no_room();
+impl Files<'_> {
+    fn mark(&self, marks: &mut [u8], partners: &mut [u16]) -> Answer<Counts>
+        ensures { MarksAll self.now.rules.now self.now.bundle.now marks.old partners.old result marks.new partners.new }
+    {
+        let count = self.inputs.facts.count as usize;
+        if marks.len() < count || partners.len() < count {
+            return Err(Refusal::of_call(Fault::Room));
+        }
+        let mut tables = Tables::empty();
+        tables.fill(self.rules, self.inputs.head);
+        Ok(self.cleaning(&tables).mark(marks, partners))
     }
-    if partners.len() < count {
-        return no_room();
+
+    fn count(&self) -> Counts
+        ensures { Ok result ≡ counting self.now.rules.now self.now.bundle.now }
+    {
+        let mut tables = Tables::empty();
+        tables.fill(self.rules, self.inputs.head);
+        self.cleaning(&tables).count()
     }
-    let mut included = BLANK;
-    let mut excluded = BLANK;
-    let functional = fill(rules, head, &mut included, &mut excluded);
-    Counted::Counts(mark_facts(bundle, facts, &excluded, functional, marks, partners))
+
+    fn ask(&self, number: u64) -> Answer<Judged>
+        ensures { result ≡ asking self.now.rules.now self.now.bundle.now number }
+    {
+        let fact = FactsOf::new(self.bundle, self.inputs.facts)
+            .nth(number as usize)
+            .ok_or(Refusal::of_call(Fault::NoFact))?;
+        let mut tables = Tables::empty();
+        tables.fill(self.rules, self.inputs.head);
+        Ok(self.cleaning(&tables).judge(fact))
+    }
 }
 
 // The marks and partners of a bundle's facts, into lent rows, and their counts.
-pub fn mark_bundle(rules: &[u8], bundle: &[u8], marks: &mut [u8], partners: &mut [u16]) -> Counted
+pub fn mark_bundle(
+    rules: &[u8],
+    bundle: &[u8],
+    marks: &mut [u8],
+    partners: &mut [u16],
+) -> Answer<Counts>
     ensures { MarksAll rules.now bundle.now marks.old partners.old result marks.new partners.new }
 {
-    let opened = open_inputs(rules, bundle);
-    let Opened::Accepted(inputs) = opened else {
-        return Counted::Refused(opened.refusal());
-    };
-    mark_accepted(rules, inputs.head, bundle, inputs.facts, marks, partners)
-}
-
-fn count_accepted(rules: &[u8], head: Head, bundle: &[u8], facts: Facts) -> Counted
-    requires { Accepted rules.now bundle.now head facts }
-    ensures { counted_told result ≡ counting rules.now bundle.now }
-{
-    let mut included = BLANK;
-    let mut excluded = BLANK;
-    let functional = fill(rules, head, &mut included, &mut excluded);
-    Counted::Counts(count_facts(bundle, facts, &excluded, functional))
+    Files::open(rules, bundle)?.mark(marks, partners)
 }
 
 // The counts alone.
-pub fn count_bundle(rules: &[u8], bundle: &[u8]) -> Counted
-    ensures { counted_told result ≡ counting rules.now bundle.now }
+pub fn count_bundle(rules: &[u8], bundle: &[u8]) -> Answer<Counts>
+    ensures { result ≡ counting rules.now bundle.now }
 {
-    let opened = open_inputs(rules, bundle);
-    let Opened::Accepted(inputs) = opened else {
-        return Counted::Refused(opened.refusal());
-    };
-    count_accepted(rules, inputs.head, bundle, inputs.facts)
-}
-
-fn ask_accepted(rules: &[u8], head: Head, bundle: &[u8], facts: Facts, number: u64) -> Asked
-    requires { Accepted rules.now bundle.now head facts }
-    ensures { asked_told result ≡ asking rules.now bundle.now number }
-{
-    if number >= facts.count as u64 {
-        return Asked::Refused(Refusal {
-            number: Refusal::NO_FACT,
-            side: Refusal::CALL,
-            place: 0,
-            item: Refusal::NO_ITEM,
-        });
-    }
-    let mut included = BLANK;
-    let mut excluded = BLANK;
-    let functional = fill(rules, head, &mut included, &mut excluded);
-    let f = fact_number(bundle, facts, number as u32);
-    Asked::Judged(judge(bundle, facts, &excluded, functional, f))
+    Ok(Files::open(rules, bundle)?.count())
 }
 
 // "Asking about one fact number gives its mark and partner."
-pub fn ask_fact(rules: &[u8], bundle: &[u8], number: u64) -> Asked
-    ensures { asked_told result ≡ asking rules.now bundle.now number }
+pub fn ask_fact(rules: &[u8], bundle: &[u8], number: u64) -> Answer<Judged>
+    ensures { result ≡ asking rules.now bundle.now number }
 {
-    let opened = open_inputs(rules, bundle);
-    let Opened::Accepted(inputs) = opened else {
-        return Asked::Refused(opened.refusal());
-    };
-    ask_accepted(rules, inputs.head, bundle, inputs.facts, number)
+    Files::open(rules, bundle)?.ask(number)
 }

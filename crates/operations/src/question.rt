@@ -1,143 +1,78 @@
 // The two simple questions.
 ghost use Rattle.std.specs.Prelude.{◌≡◌};
-ghost use Rattle.number.specs.Answer.{refusal};
-ghost use Rattle.bundle.specs.Opened.{Accepted};
 ghost use Rattle.clean.specs.Operations.{having, joining};
-ghost use Rattle.operations.specs.Promises.{replied_told, RepliesTo};
+ghost use Rattle.operations.specs.Promises.{RepliesTo};
 
-use bundle::{Facts, Opened, open_inputs};
+use crate::files::Files;
 use clashes::Typ;
-use clean::lowest_support;
-use follows::fill;
-use number::{Num, Refusal};
-use rule::Head;
+use follows::Tables;
+use number::{Answer, Fault, MOST, Refusal};
 use site::{BasicConcept, BasicRole};
-use tables::BLANK;
 
-// "yes with the lowest-numbered kept fact (..); else no", or the refusal.
-#[derive(Clone, Copy)]
-pub enum Replied {
-    Yes(u32),
-    No,
-    Refused(Refusal),
-}
+impl Files<'_> {
+    // The tables are filled, and the facts gone through.
+    fn reply(&self, asked: Typ) -> Option<u32>
+        ensures { RepliesTo self.now.rules.now self.now.inputs.head self.now.bundle.now self.now.inputs.facts asked result }
+    {
+        let mut tables = Tables::empty();
+        tables.fill(self.rules, self.inputs.head);
+        let found = self
+            .cleaning(&tables)
+            .lowest_support(&tables.included, asked)?;
+        Some(found as u32)
+    }
 
-fn refuse(number: u32) -> Replied
-    ensures { result ≡ Replied.Refused (refusal number 2 0) }
-{
-    Replied::Refused(Refusal {
-        number,
-        side: Refusal::CALL,
-        place: 0,
-        item: Refusal::NO_ITEM,
-    })
-}
-
-// The tables are filled, and the facts walked through.
-fn reply(rules: &[u8], head: Head, bundle: &[u8], facts: Facts, asked: Typ) -> Replied
-    requires { Accepted rules.now bundle.now head facts }
-    ensures { RepliesTo rules.now head bundle.now facts asked result }
-{
-    let mut included = BLANK;
-    let mut excluded = BLANK;
-    let functional = fill(rules, head, &mut included, &mut excluded);
-    let found = lowest_support(bundle, facts, &included, &excluded, functional, asked);
-    if found < facts.count {
-        return Replied::Yes(found);
-    }
-    Replied::No
-}
-
-fn has_accepted(
-    rules: &[u8],
-    head: Head,
-    bundle: &[u8],
-    facts: Facts,
-    code: u64,
-    thing: u64,
-) -> Replied
-    requires { Accepted rules.now bundle.now head facts }
-    ensures { replied_told result ≡ having rules.now bundle.now code thing }
-{
-    if code >= BasicConcept::COUNT as u64 {
-        return refuse(Refusal::UNKNOWN);
-    }
-    if !head.declared().has_concept(code as u32) {
-        return refuse(Refusal::UNKNOWN);
-    }
-    if thing > Num::MOST as u64 {
-        return refuse(Refusal::OVER);
-    }
-    let a = thing as u32;
-    reply(
-        rules,
-        head,
-        bundle,
-        facts,
-        Typ {
+    fn has(&self, code: u64, thing: u64) -> Answer<Option<u32>>
+        ensures { result ≡ having self.now.rules.now self.now.bundle.now code thing }
+    {
+        let declared = self.inputs.head.declared();
+        if code >= BasicConcept::COUNT as u64 || !declared.has_concept(code as u32) {
+            return Err(Refusal::of_call(Fault::Unknown));
+        }
+        if thing > MOST as u64 {
+            return Err(Refusal::of_call(Fault::Over));
+        }
+        Ok(self.reply(Typ {
             node: code as usize,
-            from: a,
-            to: a,
-        },
-    )
+            from: thing as u32,
+            to: thing as u32,
+        }))
+    }
+
+    fn joins(&self, code: u64, from: u64, to: u64) -> Answer<Option<u32>>
+        ensures { result ≡ joining self.now.rules.now self.now.bundle.now code from to }
+    {
+        let declared = self.inputs.head.declared();
+        if code >= BasicRole::COUNT as u64 || !declared.has_role(code as u32) {
+            return Err(Refusal::of_call(Fault::Unknown));
+        }
+        if from > MOST as u64 || to > MOST as u64 {
+            return Err(Refusal::of_call(Fault::Over));
+        }
+        Ok(self.reply(Typ {
+            node: BasicConcept::COUNT as usize + code as usize,
+            from: from as u32,
+            to: to as u32,
+        }))
+    }
 }
 
 // "B of a"
-pub fn has_concept(rules: &[u8], bundle: &[u8], code: u64, thing: u64) -> Replied
-    ensures { replied_told result ≡ having rules.now bundle.now code thing }
+pub fn has_concept(rules: &[u8], bundle: &[u8], code: u64, thing: u64) -> Answer<Option<u32>>
+    ensures { result ≡ having rules.now bundle.now code thing }
 {
-    let opened = open_inputs(rules, bundle);
-    let Opened::Accepted(inputs) = opened else {
-        return Replied::Refused(opened.refusal());
-    };
-    has_accepted(rules, inputs.head, bundle, inputs.facts, code, thing)
-}
-
-fn joins_accepted(
-    rules: &[u8],
-    head: Head,
-    bundle: &[u8],
-    facts: Facts,
-    code: u64,
-    from: u64,
-    to: u64,
-) -> Replied
-    requires { Accepted rules.now bundle.now head facts }
-    ensures { replied_told result ≡ joining rules.now bundle.now code from to }
-{
-    if code >= BasicRole::COUNT as u64 {
-        return refuse(Refusal::UNKNOWN);
-    }
-    if !head.declared().has_role(code as u32) {
-        return refuse(Refusal::UNKNOWN);
-    }
-    if from > Num::MOST as u64 {
-        return refuse(Refusal::OVER);
-    }
-    if to > Num::MOST as u64 {
-        return refuse(Refusal::OVER);
-    }
-    let node = BasicConcept::COUNT as usize + code as usize;
-    reply(
-        rules,
-        head,
-        bundle,
-        facts,
-        Typ {
-            node,
-            from: from as u32,
-            to: to as u32,
-        },
-    )
+    Files::open(rules, bundle)?.has(code, thing)
 }
 
 // "q from a to b"
-pub fn joins_things(rules: &[u8], bundle: &[u8], code: u64, from: u64, to: u64) -> Replied
-    ensures { replied_told result ≡ joining rules.now bundle.now code from to }
+pub fn joins_things(
+    rules: &[u8],
+    bundle: &[u8],
+    code: u64,
+    from: u64,
+    to: u64,
+) -> Answer<Option<u32>>
+    ensures { result ≡ joining rules.now bundle.now code from to }
 {
-    let opened = open_inputs(rules, bundle);
-    let Opened::Accepted(inputs) = opened else {
-        return Replied::Refused(opened.refusal());
-    };
-    joins_accepted(rules, inputs.head, bundle, inputs.facts, code, from, to)
+    Files::open(rules, bundle)?.joins(code, from, to)
 }

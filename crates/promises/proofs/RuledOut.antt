@@ -5,8 +5,10 @@ use Prim.Native.Nat.{ℕ, ◌≤◌}
 use mathlib.Core.Path.{◌≡◌, refl, sym, ap}
 use mathlib.Core.List.{List, [], ◌∷◌}
 use lib.ListN.{length, get_or}
-use Rattle.number.specs.Answer.Answer.{refuses}
+use Rattle.std.specs.Prelude.{Err}
 use Rattle.number.specs.Answer.{over, laid, refusal}
+use Rattle.number.specs.declared.refusal.Fault.TheVariants.{Room}
+use Rattle.number.specs.declared.refusal.Side.TheVariants.{Call}
 use Rattle.number.proofs.One.{Same}
 use Rattle.cases.proofs.Cases.{R, F}
 use Rattle.shown.specs.Shown.{not_refused, shown_counts, shown_asked, shown_answer, shown_length}
@@ -89,7 +91,7 @@ abbrev too_short : List ℕ
 too_short = 7 ∷ 7 ∷ 7 ∷ 7 ∷ 7 ∷ []
 
 abbrev no_counts : DzyCounts
-no_counts = shown_counts (refuses (refusal 9 2 0))
+no_counts = shown_counts (Err (refusal Room Call 0))
 
 pub short_right : Mark R F too_short lent no_counts too_short lent
 short_right =
@@ -287,12 +289,12 @@ module _ (r : DzyLength) (out : List ℕ) (p : WriteKept R F three r out) where
 abbrev two : List ℕ
 two = 7 ∷ 7 ∷ []
 
-pub no_room_right : WriteKept R F two (refused_with (refusal 9 2 0)) two
+pub no_room_right : WriteKept R F two (refused_with (refusal Room Call 0)) two
 no_room_right =
     record { answer = sym (ap (λ a. shown_length (over length a)) worked.not_kept); memory = sym (ap (laid two 0) worked.not_kept) }
 
 module _ (r : DzyLength) (out : List ℕ) (p : WriteKept R F two r out) where
-  pub no_room_is : Same r (refused_with (refusal 9 2 0)) out two
+  pub no_room_is : Same r (refused_with (refusal Room Call 0)) out two
   no_room_is = one_write_kept R F two p no_room_right
 
   -- as many bytes as there is room for are written

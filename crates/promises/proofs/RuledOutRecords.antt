@@ -4,14 +4,17 @@ use mathlib.Core.Path.{◌≡◌, refl, sym, ap, ◌∙◌}
 use mathlib.Core.List.{List, [], ◌∷◌, ◌++◌}
 use lib.ListN.{length, get_or}
 use denote.Ref.{Bor}
-use Rattle.number.specs.Answer.Answer.{refuses}
-use Rattle.number.specs.Answer.{over, laid, refusal, of_item, no_item}
+use Rattle.std.specs.Prelude.{Err}
+use Rattle.number.specs.Answer.{over, laid, refusal, of_item}
+use Rattle.number.specs.declared.refusal.Fault.TheVariants.{Cut, Broken, Order, Room, Kind, Object}
+use Rattle.number.specs.declared.refusal.Side.TheVariants.{Rules, Bundle, Call}
 use Rattle.number.proofs.One.{Same}
-use Rattle.records.specs.Reading.{Stepped, reader_step}
+use Rattle.records.specs.Reading.{reader_step}
+use Rattle.records.specs.declared.step.Step.{Step}
 use Rattle.records.specs.declared.record.Record.{Record}
 use Rattle.rows.specs.declared.reader.Reader.{Reader}
 use Rattle.cases.proofs.Cases.{R, F}
-use Rattle.shown.specs.Shown.{not_refused, no_record, shown_length, shown_start, shown_yield}
+use Rattle.shown.specs.Shown.{not_refused, no_item, no_record, shown_length, shown_start, shown_yield}
 use Rattle.shown.specs.declared.shapes.DzyLength.{DzyLength}
 use Rattle.shown.specs.declared.shapes.DzyStart.{DzyStart}
 use Rattle.shown.specs.declared.shapes.DzyYield.{DzyYield}
@@ -37,12 +40,12 @@ module _ (r : DzyLength) (p : CheckRules R r) where
   rules_not_refused low = accepted (ap (λ l. l.refused.number) rules_is) low
 
 -- rules that are refused, with 6 at byte 3, the kind of rule 0
-pub bad_rules_right : CheckRules bad_rules (refused_with (of_item 0 (refusal 6 0 3)))
+pub bad_rules_right : CheckRules bad_rules (refused_with (of_item 0 (refusal Broken Rules 3)))
 unfolding CheckRules
 bad_rules_right = sym (ap shown_length worked.bad_rules_lem)
 
 module _ (r : DzyLength) (p : CheckRules bad_rules r) where
-  pub bad_rules_is : r ≡ refused_with (of_item 0 (refusal 6 0 3))
+  pub bad_rules_is : r ≡ refused_with (of_item 0 (refusal Broken Rules 3))
   bad_rules_is = one_check_rules bad_rules p bad_rules_right
 
   -- they are accepted
@@ -61,12 +64,12 @@ module _ (r : DzyLength) (p : CheckRules bad_rules r) where
   bad_rules_not_of_none e = differ (ap (λ l. l.refused.item) bad_rules_is) e refl
 
 -- a kind that is not known: 11 at it, in rule 0
-pub bad_kind_right : CheckRules bad_kind (refused_with (of_item 0 (refusal 11 0 3)))
+pub bad_kind_right : CheckRules bad_kind (refused_with (of_item 0 (refusal Kind Rules 3)))
 unfolding CheckRules
 bad_kind_right = sym (ap shown_length worked.bad_kind_lem)
 
 module _ (r : DzyLength) (p : CheckRules bad_kind r) where
-  pub bad_kind_is : r ≡ refused_with (of_item 0 (refusal 11 0 3))
+  pub bad_kind_is : r ≡ refused_with (of_item 0 (refusal Kind Rules 3))
   bad_kind_is = one_check_rules bad_kind p bad_kind_right
 
   -- it is told as what is not declared
@@ -95,12 +98,12 @@ module _ (r : DzyLength) (p : CheckBundle R F r) where
   bundle_not_refused low = accepted (ap (λ l. l.refused.number) bundle_is) low
 
 -- a fact twice is refused, with 8 at the second
-pub twice_right : CheckBundle R twice (refused_with (of_item 1 (refusal 8 1 3)))
+pub twice_right : CheckBundle R twice (refused_with (of_item 1 (refusal Order Bundle 3)))
 unfolding CheckBundle
 twice_right = sym (ap shown_length worked.bad_facts)
 
 module _ (r : DzyLength) (p : CheckBundle R twice r) where
-  pub twice_is : r ≡ refused_with (of_item 1 (refusal 8 1 3))
+  pub twice_is : r ≡ refused_with (of_item 1 (refusal Order Bundle 3))
   twice_is = one_check_bundle R twice p twice_right
 
   -- it is accepted
@@ -122,12 +125,12 @@ module _ (r : DzyLength) (p : CheckBundle R twice r) where
   twice_not_of_none e = differ (ap (λ l. l.refused.item) twice_is) e refl
 
 -- a bundle of no bytes: 1 at the count, which is about no item
-pub no_facts_right : CheckBundle R [] (refused_with (refusal 1 1 0))
+pub no_facts_right : CheckBundle R [] (refused_with (refusal Cut Bundle 0))
 unfolding CheckBundle
 no_facts_right = sym (ap shown_length worked.no_facts)
 
 module _ (r : DzyLength) (p : CheckBundle R [] r) where
-  pub no_facts_is : r ≡ refused_with (refusal 1 1 0)
+  pub no_facts_is : r ≡ refused_with (refusal Cut Bundle 0)
   no_facts_is = one_check_bundle R [] p no_facts_right
 
   -- an item in the header
@@ -169,12 +172,12 @@ module _ (r : DzyLength) (row : List Record) (p : Records R F seven r row) where
 abbrev five : List Record
 five = old ∷ old ∷ old ∷ old ∷ old ∷ []
 
-pub no_slot_right : Records R F five (refused_with (refusal 9 2 0)) five
+pub no_slot_right : Records R F five (refused_with (refusal Room Call 0)) five
 no_slot_right =
     record { answer = sym (ap (λ a. shown_length (over length a)) worked.not_handed); memory = sym (ap (laid five 0) worked.not_handed) }
 
 module _ (r : DzyLength) (row : List Record) (p : Records R F five r row) where
-  pub no_slot_is : Same r (refused_with (refusal 9 2 0)) row five
+  pub no_slot_is : Same r (refused_with (refusal Room Call 0)) row five
   no_slot_is = one_records R F five p no_slot_right
 
   -- as many records as there is room for are written
@@ -217,12 +220,12 @@ module _ (r : DzyLength) (out : List ℕ) (p : WriteRecords R six blank r out) w
 abbrev out_six : List ℕ
 out_six = 5 ∷ 5 ∷ 5 ∷ 5 ∷ 5 ∷ 5 ∷ []
 
-pub bad_row_right : WriteRecords R bad_row out_six (refused_with (refusal 12 2 1)) out_six
+pub bad_row_right : WriteRecords R bad_row out_six (refused_with (refusal Object Call 1)) out_six
 bad_row_right =
     record { answer = sym (ap (λ a. shown_length (over length a)) worked.not_written); memory = sym (ap (laid out_six 0) worked.not_written) }
 
 module _ (r : DzyLength) (out : List ℕ) (p : WriteRecords R bad_row out_six r out) where
-  pub bad_row_is : Same r (refused_with (refusal 12 2 1)) out out_six
+  pub bad_row_is : Same r (refused_with (refusal Object Call 1)) out out_six
   bad_row_is = one_write_records R bad_row out_six p bad_row_right
 
   -- the object is dropped without a word
@@ -250,7 +253,7 @@ abbrev starts_at : ℕ → DzyStart
 starts_at n = record { refused = not_refused; at = n }
 
 abbrev no_start : DzyStart
-no_start = shown_start (refuses (of_item 1 (refusal 8 1 3)))
+no_start = shown_start (Err (of_item 1 (refusal Order Bundle 3)))
 
 pub start_right : ReaderStart R F (starts_at 1)
 unfolding ReaderStart
@@ -286,7 +289,7 @@ abbrev reader : Bor (List ℕ) → ℕ → Reader
 reader s n = record { src = s; at = n }
 
 -- what is seen of a step that is known
-steps_to : (s : Bor (List ℕ)) (bytes : List ℕ) (at : ℕ) (x : Stepped) → s.now ≡ bytes → reader_step bytes at ≡ x → ReaderNext (reader s at) (shown_yield x.yields) (reader s x.next)
+steps_to : (s : Bor (List ℕ)) (bytes : List ℕ) (at : ℕ) (x : Step) → s.now ≡ bytes → reader_step bytes at ≡ x → ReaderNext (reader s at) (shown_yield x.yields) (reader s x.next)
 steps_to s bytes at x same is =
     record {
       answer = sym (ap (λ z. shown_yield z.yields) (ap (λ b. reader_step b at) same ∙ is));
@@ -346,7 +349,7 @@ module _ (s : Bor (List ℕ)) (bytes : s.now ≡ F) where
 
 -- over bytes that are no fact: refusal 1, and it stays where it is
 abbrev no_fact : DzyYield
-no_fact = shown_yield (refuses (refusal 1 1 0))
+no_fact = shown_yield (Err (refusal Cut Bundle 0))
 
 module _ (s : Bor (List ℕ)) (bytes : s.now ≡ 0x80 ∷ []) where
   pub stop_right : ReaderNext (reader s 0) no_fact (reader s 0)

@@ -9,9 +9,11 @@ use lib.Dec.{eqb}
 use native.Mathlib.Omega.{arith}
 use borrow.Author.Tests.{eqb-false}
 use Rattle.number.specs.Answer.{refusal, of_item, over}
-use Rattle.number.specs.Answer.Answer.{gives, refuses}
+use Rattle.std.specs.Prelude.{Some, None, Ok, Err}
 use Rattle.number.specs.declared.refusal.Refusal.{Refusal}
 use Rattle.number.specs.Number.{form_of, second, third, number_at, bytes_of}
+use Rattle.number.specs.declared.refusal.Fault.TheVariants.{Cut, Broken, Order, Room, Kind, Object}
+use Rattle.number.specs.declared.refusal.Side.TheVariants.{Rules, Bundle, Call}
 use Rattle.site.specs.Codes.{role_of, concept_of, concept_declared, predicate_declared}
 use Rattle.site.specs.Lists.{up_to, any, count, keep, first, each}
 use Rattle.site.specs.Items.{tested_at, at_most, items_from, end_at}
@@ -21,15 +23,15 @@ use Rattle.bundle.specs.Bundle.{fact_at, next_fact, facts_in, check_bundle, read
 use Rattle.bundle.specs.Opened.{opening}
 use Rattle.writer.specs.Records.{room_for, record_fault, records_from, plan_records}
 use Rattle.records.specs.Reading.{reader_start, reader_step}
-use Rattle.records.specs.Reading.Found.{fact, done}
 use Rattle.records.specs.Rows.{hand_out, hand_records, write_row}
 use Rattle.records.specs.declared.record.Record.{Record}
 use Rattle.steps.specs.Tables.{roles_of, nodes_of, arrow, mates, find, rows_of, looked, through, closure, apart, empty, excludes, functional_in, excluded_rows, follows_from, follows_of}
 use Rattle.clashes.specs.Types.{types_of}
 use Rattle.clashes.specs.Marks.{jar, split, meet, alone, contradict, clash, mark, partner, marks, partners, marked, counts, kept, supports, support}
+use Rattle.clashes.specs.Judging.{judged}
 use Rattle.clashes.specs.declared.answers.Counts.{Counts}
+use Rattle.clashes.specs.declared.answers.Judged.TheVariants.{Disputed}
 use Rattle.clean.specs.Operations.{given, room_for_marks, marking, counting, asking, reply_of, having, joining, keeping}
-use Rattle.clean.specs.Operations.Reply.{yes_by, none}
 use Rattle.cases.proofs.Cases.{R, F}
 use Rattle.shown.specs.Shown.{not_refused, shown_length}
 use Rattle.shown.specs.declared.shapes.DzyLength.{DzyLength}
@@ -63,34 +65,34 @@ six_counts = record { facts = 6; kept = 1; alone = 1; disputed = 4 }
 
 -- the answers of document 01's definitions, with so many slots or bytes of room
 pub record Worked : Type 0 where
-  pub marked_so : marking R F 7 7 ≡ gives (record { counts = six_counts; marks = 2 ∷ 2 ∷ 0 ∷ 2 ∷ 2 ∷ 1 ∷ []; partners = 1 ∷ 0 ∷ 65535 ∷ 1 ∷ 3 ∷ 65535 ∷ [] })
-  pub not_marked : marking R F 5 7 ≡ refuses (refusal 9 2 0)
-  pub counted : counting R F ≡ gives six_counts
-  pub asked : asking R F 3 ≡ gives (record { mark = 2; partner = 1 })
-  pub had : having R F 64 9 ≡ gives (yes_by 2)
-  pub joined : joining R one_uplink 1 7 9 ≡ gives (yes_by 0)
-  pub not_joined : joining R one_uplink 1 9 7 ≡ gives none
-  pub kept_exactly : keeping R F 3 ≡ gives (0x01 ∷ 0x01 ∷ 0x09 ∷ [])
-  pub kept_so : keeping R F 4 ≡ gives (0x01 ∷ 0x01 ∷ 0x09 ∷ [])
-  pub not_kept : keeping R F 2 ≡ refuses (refusal 9 2 0)
-  pub rules : over (λ h. h.rules) (check_rules R) ≡ gives 5
-  pub bad_rules_lem : over (λ h. h.rules) (check_rules bad_rules) ≡ refuses (of_item 0 (refusal 6 0 3))
-  pub bad_kind_lem : over (λ h. h.rules) (check_rules bad_kind) ≡ refuses (of_item 0 (refusal 11 0 3))
-  pub facts : over (λ i. i.facts.count) (opening R F) ≡ gives 6
-  pub no_facts : over (λ i. i.facts.count) (opening R []) ≡ refuses (refusal 1 1 0)
-  pub bad_facts : over (λ i. i.facts.count) (opening R twice) ≡ refuses (of_item 1 (refusal 8 1 3))
-  pub handed : hand_records R F 7 ≡ gives six
-  pub not_handed : hand_records R F 5 ≡ refuses (refusal 9 2 0)
-  pub written : write_row R 18 six ≡ gives F
-  pub not_written : write_row R 6 bad_row ≡ refuses (refusal 12 2 1)
-  pub started : reader_start R F ≡ gives 1
-  pub not_started : reader_start R twice ≡ refuses (of_item 1 (refusal 8 1 3))
-  pub stepped : reader_step F 7 ≡ record { yields = gives (fact (record { predicate = 64; subject = 9; object = 7 })); next = 10 }
-  pub not_stepped : reader_step (0x80 ∷ []) 0 ≡ record { yields = refuses (refusal 1 1 0); next = 0 }
-  pub ended : reader_step F 17 ≡ record { yields = gives done; next = 17 }
+  pub marked_so : marking R F 7 7 ≡ Ok (record { counts = six_counts; marks = 2 ∷ 2 ∷ 0 ∷ 2 ∷ 2 ∷ 1 ∷ []; partners = 1 ∷ 0 ∷ 65535 ∷ 1 ∷ 3 ∷ 65535 ∷ [] })
+  pub not_marked : marking R F 5 7 ≡ Err (refusal Room Call 0)
+  pub counted : counting R F ≡ Ok six_counts
+  pub asked : asking R F 3 ≡ Ok (Disputed 1)
+  pub had : having R F 64 9 ≡ Ok (Some 2)
+  pub joined : joining R one_uplink 1 7 9 ≡ Ok (Some 0)
+  pub not_joined : joining R one_uplink 1 9 7 ≡ Ok None
+  pub kept_exactly : keeping R F 3 ≡ Ok (0x01 ∷ 0x01 ∷ 0x09 ∷ [])
+  pub kept_so : keeping R F 4 ≡ Ok (0x01 ∷ 0x01 ∷ 0x09 ∷ [])
+  pub not_kept : keeping R F 2 ≡ Err (refusal Room Call 0)
+  pub rules : over (λ h. h.rules) (check_rules R) ≡ Ok 5
+  pub bad_rules_lem : over (λ h. h.rules) (check_rules bad_rules) ≡ Err (of_item 0 (refusal Broken Rules 3))
+  pub bad_kind_lem : over (λ h. h.rules) (check_rules bad_kind) ≡ Err (of_item 0 (refusal Kind Rules 3))
+  pub facts : over (λ i. i.facts.count) (opening R F) ≡ Ok 6
+  pub no_facts : over (λ i. i.facts.count) (opening R []) ≡ Err (refusal Cut Bundle 0)
+  pub bad_facts : over (λ i. i.facts.count) (opening R twice) ≡ Err (of_item 1 (refusal Order Bundle 3))
+  pub handed : hand_records R F 7 ≡ Ok six
+  pub not_handed : hand_records R F 5 ≡ Err (refusal Room Call 0)
+  pub written : write_row R 18 six ≡ Ok F
+  pub not_written : write_row R 6 bad_row ≡ Err (refusal Object Call 1)
+  pub started : reader_start R F ≡ Ok 1
+  pub not_started : reader_start R twice ≡ Err (of_item 1 (refusal Order Bundle 3))
+  pub stepped : reader_step F 7 ≡ record { yields = Ok (Some (record { predicate = 64; subject = 9; object = 7 })); next = 10 }
+  pub not_stepped : reader_step (0x80 ∷ []) 0 ≡ record { yields = Err (refusal Cut Bundle 0); next = 0 }
+  pub ended : reader_step F 17 ≡ record { yields = Ok None; next = 17 }
 
 pub worked : Worked
-unfolding form_of second third number_at bytes_of role_of concept_of concept_declared predicate_declared up_to any count keep first each tested_at at_most items_from end_at head_of code_declared rule_at next_rule rules_in next_unbroken after_rules check_rules site_of fact_at next_fact facts_in check_bundle read_bundle fact_bytes bundle_of room_for record_fault records_from plan_records roles_of nodes_of arrow mates find rows_of looked through closure apart empty excludes functional_in excluded_rows follows_from follows_of types_of jar split meet alone contradict clash mark partner marks partners marked counts kept supports support given room_for_marks marking counting asking reply_of having joining keeping opening reader_start reader_step hand_out hand_records write_row
+unfolding form_of second third number_at bytes_of role_of concept_of concept_declared predicate_declared up_to any count keep first each tested_at at_most items_from end_at head_of code_declared rule_at next_rule rules_in next_unbroken after_rules check_rules site_of fact_at next_fact facts_in check_bundle read_bundle fact_bytes bundle_of room_for record_fault records_from plan_records roles_of nodes_of arrow mates find rows_of looked through closure apart empty excludes functional_in excluded_rows follows_from follows_of types_of jar split meet alone contradict clash mark partner marks partners marked counts kept supports support judged given room_for_marks marking counting asking reply_of having joining keeping opening reader_start reader_step hand_out hand_records write_row
 worked =
     record {
       marked_so = refl;
@@ -125,7 +127,7 @@ abbrev pub long : ℕ → DzyLength
 long n = record { refused = not_refused; length = n }
 
 abbrev pub refused_with : Refusal → DzyLength
-refused_with r = shown_length (refuses r)
+refused_with r = shown_length (Err r)
 
 -- one number is not two others; nor, in two rows, the number at one place
 pub differ : {x y z : ℕ} → x ≡ y → x ≡ z → eqb y z ≡ false → ⊥

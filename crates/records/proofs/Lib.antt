@@ -1,5 +1,3 @@
-pub mod Answers
-pub mod Filling
+pub mod HandedOut
 pub mod OfReader
 pub mod OfRows
-pub mod Passes

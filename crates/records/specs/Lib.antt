@@ -1,4 +1,2 @@
 pub mod Reading
 pub mod Rows
-pub mod Told
-pub mod Written

@@ -1,14 +1,10 @@
-// Facts as records: what is handed out, what one step of a reader yields, and the parts of writing a row as a bundle.
+// Facts as records: the record itself, what is handed out of a bundle, and the steps of a reader.
 #![tactic(auto)]
 
-mod answer;
 mod hand;
 mod record;
 mod step;
-mod write;
 
-pub use answer::RowAnswer;
-pub use hand::{Hand, Taken, decide, take_at};
+pub use hand::decide;
 pub use record::Record;
-pub use step::{Started, Step, Yield, start, step_at};
-pub use write::{Opening, end_row, open_row, push_record, turn_over};
+pub use step::{Step, start, step_at};

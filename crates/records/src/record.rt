@@ -3,6 +3,7 @@ ghost use Rattle.std.specs.Prelude.{◌≡◌};
 ghost use Rattle.records.specs.Rows.{record_of, fact_of};
 
 use site::Fact;
+use writer::HasFact;
 
 // "A record has predicate, subject and object"
 #[repr(C)]
@@ -13,22 +14,22 @@ pub struct Record {
     pub object: u32,
 }
 
-impl Record {
-    // The record of a fact.
-    pub fn of(fact: Fact) -> Self
-        ensures { result ≡ record_of fact }
-    {
+impl From<Fact> for Record {
+    ghost from_gives = { λ fact r. r ≡ record_of fact };
+
+    fn from(fact: Fact) -> Self {
         Self {
             predicate: fact.predicate,
             subject: fact.subject,
             object: fact.object,
         }
     }
+}
 
-    // The fact that a record is of.
-    pub fn fact(self) -> Fact
-        ensures { result ≡ fact_of self }
-    {
+impl HasFact for Record {
+    ghost fact_of = { fact_of };
+
+    fn fact(self) -> Fact {
         Fact::new(self.predicate, self.subject, self.object)
     }
 }

@@ -1,21 +1,17 @@
-// Handing a bundle's facts out as a lent row of records: a loop over the row, the work being in covered functions.
-ghost use Rattle.records.specs.Told.{Hands};
+// Handing a bundle's facts out as a lent row of records.
+ghost use Rattle.records.specs.Rows.{Hands};
 
-use records::{Record, RowAnswer, decide, take_at};
+use bundle::FactsOf;
+use number::Answer;
+use records::{Record, decide};
 
 // "The console receives the facts as a lent row of fact records".
-pub fn hand_records(rules: &[u8], bundle: &[u8], row: &mut [Record]) -> RowAnswer
+pub fn hand_records(rules: &[u8], bundle: &[u8], row: &mut [Record]) -> Answer<usize>
     ensures { Hands rules.now bundle.now row.old result row.new }
 {
-    let hand = decide(rules, bundle, row.len());
-    let count = hand.count;
-    let mut at = hand.start;
-    let mut i = 0;
-    while i < count {
-        let taken = take_at(bundle, at);
-        row[i] = taken.slot;
-        at = taken.next;
-        i += 1;
+    let facts = decide(rules, bundle, row.len())?;
+    for (i, fact) in FactsOf::new(bundle, facts).enumerate() {
+        row[i] = Record::from(fact);
     }
-    hand.handed
+    Ok(facts.count as usize)
 }

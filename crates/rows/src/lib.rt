@@ -1,4 +1,4 @@
-// Rows of records and the reader: the functions over a slice of records and over a struct that holds a slice, each over functions of records.
+// Rows of records and the reader: the functions over a slice of records, and over a struct that holds a slice.
 #![tactic(auto)]
 
 mod handing;
@@ -7,4 +7,4 @@ mod row;
 
 pub use handing::hand_records;
 pub use reader::{Reader, next};
-pub use row::{push_row, write_records};
+pub use row::write_records;

@@ -1,7 +1,9 @@
 // A reader that remembers the bundle and its next byte; it leaves the work to `step_at`.
 ghost use Rattle.rows.specs.Stepping.{Steps};
 
-use records::{Yield, step_at};
+use number::Answer;
+use records::step_at;
+use site::Fact;
 
 // "A reader that remembers the bundle and its next byte"
 #[repr(C)]
@@ -11,8 +13,8 @@ pub struct Reader<'a> {
     pub at: usize,
 }
 
-// It "yields one fact at a time".
-pub fn next<'s, 'a>(reader: &'s mut Reader<'a>) -> Yield
+// It "yields one fact at a time": the fact, or none when it is done.
+pub fn next<'s, 'a>(reader: &'s mut Reader<'a>) -> Answer<Option<Fact>>
     ensures { Steps reader.old result reader.new }
 {
     let step = step_at(reader.src, reader.at);

@@ -6,8 +6,11 @@ use mathlib.Core.List.{List}
 use lib.Dec.{eqb}
 use native.Mathlib.Omega.{arith}
 use borrow.Author.Tests.{eqb-true, eqb-false}
-use Rattle.number.specs.Answer.{Answer, Read, ◌then◌}
-use Rattle.number.specs.Answer.Answer.{gives}
+use Rattle.number.specs.Answer.{Answer, ◌then◌}
+use Rattle.number.specs.declared.read.Read.{Read}
+use Rattle.number.specs.declared.refusal.Fault.TheVariants.{Unknown, Kind}
+use Rattle.number.specs.declared.refusal.Side.TheVariants.{Rules}
+use Rattle.std.specs.Prelude.{Ok}
 use Rattle.number.proofs.Answers.{went, given_once}
 use Rattle.site.specs.Codes.{concept_declared, role_declared, concept_of, role_of, rule_of}
 use Rattle.site.specs.Kinds.{Rule, Site, declared, declared_role}
@@ -50,10 +53,10 @@ module _ (h : Head) (rules : List Rule) where
   module _ (s : List ℕ) (r : Read Rule) where
     -- after the first code: one rule more by kind 4, else a second code
     rest : ℕ → Read ℕ → Answer (Read Rule)
-    rest kind x = code_at s x.next (code_declared h kind) 0 then λ y. gives (record { value = rule_of kind x.value y.value; next = y.next })
+    rest kind x = code_at s x.next (code_declared h kind) Rules then λ y. Ok (record { value = rule_of kind x.value y.value; next = y.next })
 
     after_first : (kind : ℕ) (x : Read ℕ) (four : Bool) → eqb kind functional_kind ≡ four → kind ≤ last_kind → code_declared h kind x.value ≡ true
-        → cond four (gives (record { value = rule_of kind x.value 0; next = x.next })) (rest kind x) ≡ gives r
+        → cond four (Ok (record { value = rule_of kind x.value 0; next = x.next })) (rest kind x) ≡ Ok r
         → rule_declared site r.value ≡ true
     unfolding rest
     after_first kind x true is-4 k known e =
@@ -62,24 +65,24 @@ module _ (h : Head) (rules : List Rule) where
         subst (λ (k : ℕ). code_declared h k x.value ≡ true → rule_declared site (rule_of k x.value 0) ≡ true) (sym four) (one_code x.value) known in
         subst (λ (m : Read Rule). rule_declared site m.value ≡ true) (given_once e) there
     after_first kind x false is-4 k known e =
-        let y = went (code_at s x.next (code_declared h kind) 0) _ e in
+        let y = went (code_at s x.next (code_declared h kind) Rules) _ e in
         let less : kind < 4 = below_4 kind k (eqb-false kind 4 is-4) in
-        let there = two_codes kind x.value y.value.value less known (tested_there s x.next (code_declared h kind) 5 0 y.value y.first).holds in
+        let there = two_codes kind x.value y.value.value less known (tested_there s x.next (code_declared h kind) Unknown Rules y.value y.first).holds in
         subst (λ (m : Read Rule). rule_declared site m.value ≡ true) (given_once y.rest) there
 
     -- a rule that was read has declared codes
-    pub rule_is_declared : (at : ℕ) → rule_at h s at ≡ gives r → rule_declared site r.value ≡ true
+    pub rule_is_declared : (at : ℕ) → rule_at h s at ≡ Ok r → rule_declared site r.value ≡ true
     unfolding rule_at rest
     rule_is_declared at e =
         let kind = went (kind_at s at) _ e in
-        let x = went (code_at s kind.value.next (code_declared h kind.value.value) 0) _ kind.rest in
+        let x = went (code_at s kind.value.next (code_declared h kind.value.value) Rules) _ kind.rest in
         after_first kind.value.value x.value (eqb kind.value.value functional_kind) refl
-        (within_limit last_kind kind.value.value (tested_there s at (at_most last_kind) 11 0 kind.value kind.first).holds)
-        (tested_there s kind.value.next (code_declared h kind.value.value) 5 0 x.value x.first).holds
+        (within_limit last_kind kind.value.value (tested_there s at (at_most last_kind) Kind Rules kind.value kind.first).holds)
+        (tested_there s kind.value.next (code_declared h kind.value.value) Unknown Rules x.value x.first).holds
         x.rest
 
 -- the head's limits
-module _ (s : List ℕ) (h : Head) (e : head_of s ≡ gives h) where
+module _ (s : List ℕ) (h : Head) (e : head_of s ≡ Ok h) where
   pub record HeadWithin : Type 0 where
     pub concepts : h.concepts ≤ most_concepts
     pub roles : h.roles ≤ most_roles
@@ -88,14 +91,14 @@ module _ (s : List ℕ) (h : Head) (e : head_of s ≡ gives h) where
   pub head_within : HeadWithin
   unfolding head_of
   head_within =
-      let c = went (count_at s 0 most_concepts 0) _ e in
-      let r = went (count_at s c.value.next most_roles 0) _ c.rest in
-      let n = went (count_at s r.value.next most_rules 0) _ r.rest in
+      let c = went (count_at s 0 most_concepts Rules) _ e in
+      let r = went (count_at s c.value.next most_roles Rules) _ c.rest in
+      let n = went (count_at s r.value.next most_rules Rules) _ r.rest in
       let same = given_once n.rest in
       record {
-        concepts = subst (λ (k : Head). k.concepts ≤ most_concepts) same (count_there s 0 most_concepts 0 c.value c.first).within;
-        roles = subst (λ (k : Head). k.roles ≤ most_roles) same (count_there s c.value.next most_roles 0 r.value r.first).within;
-        rules = subst (λ (k : Head). k.rules ≤ most_rules) same (count_there s r.value.next most_rules 0 n.value n.first).within;
+        concepts = subst (λ (k : Head). k.concepts ≤ most_concepts) same (count_there s 0 most_concepts Rules c.value c.first).within;
+        roles = subst (λ (k : Head). k.roles ≤ most_roles) same (count_there s c.value.next most_roles Rules r.value r.first).within;
+        rules = subst (λ (k : Head). k.rules ≤ most_rules) same (count_there s r.value.next most_rules Rules n.value n.first).within;
       }
 
   pub head_roles : h.roles ≤ most_roles

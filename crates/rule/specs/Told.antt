@@ -1,26 +1,16 @@
--- What each case of the code's answers says.
-use Rattle.number.specs.Answer.{Answer, Read, no_refusal}
-use Rattle.number.specs.Answer.Answer.{gives, refuses}
-use Rattle.number.specs.declared.refusal.Refusal.{Refusal}
-use Rattle.site.specs.Kinds.{Rule}
-use Rattle.site.specs.Told.{rule_told}
-use Rattle.rule.specs.declared.head.Head.{Head}
-use Rattle.rule.specs.declared.head.HeadRead.{HeadRead}
-use Rattle.rule.specs.declared.head.HeadRead.TheVariants.{Read as HeadIs, Refused as HeadRefused}
-use Rattle.rule.specs.declared.read.RuleRead.{RuleRead}
-use Rattle.rule.specs.declared.read.RuleRead.TheVariants.{Read as RuleIs, Refused as RuleRefused}
+-- What the code's answers about a rule say.
+use Rattle.std.specs.Prelude.{ℕ}
+use Rattle.number.specs.Answer.{Answer, over}
+use Rattle.number.specs.declared.read.Read.{Read}
+use Rattle.site.specs.Kinds.{Rule as SaidRule}
+use Rattle.site.specs.Told.{kind_number, rule_told}
+use Rattle.site.specs.declared.rule.Kind.{Kind}
+use Rattle.site.specs.declared.rule.Rule.{Rule}
 
--- a head, or the refusal
-abbrev pub head_told : HeadRead → Answer Head
-head_told (HeadIs h) = gives h
-head_told (HeadRefused r) = refuses r
+-- a kind by its number, with the place after it, or the refusal
+abbrev pub kind_read : Answer (Read Kind) → Answer (Read ℕ)
+kind_read = over (λ k. record { value = kind_number k.value; next = k.next })
 
 -- a rule with the place after it, or the refusal
-abbrev pub rule_read_told : RuleRead → Answer (Read Rule)
-rule_read_told (RuleIs rule next) = gives (record { value = rule_told rule; next = next })
-rule_read_told (RuleRefused r) = refuses r
-
--- the refusal in it; there is none in a rule
-abbrev pub rule_read_refusal : RuleRead → Refusal
-rule_read_refusal (RuleIs rule next) = no_refusal
-rule_read_refusal (RuleRefused r) = r
+abbrev pub rule_read : Answer (Read Rule) → Answer (Read SaidRule)
+rule_read = over (λ r. record { value = rule_told r.value; next = r.next })

@@ -4,5 +4,5 @@
 mod head;
 mod read;
 
-pub use head::{Head, HeadRead, read_head};
-pub use read::{RuleRead, rule_at};
+pub use head::{Head, read_head};
+pub use read::rule_at;

@@ -1,70 +1,60 @@
 // Reading one rule at a place.
 ghost use Rattle.std.specs.Prelude.{◌≡◌};
-ghost use Rattle.number.specs.Told.{told};
 ghost use Rattle.site.specs.Items.{code_at};
-ghost use Rattle.rule.specs.OneRule.{code_declared, rule_at};
-ghost use Rattle.rule.specs.Told.{rule_read_told, rule_read_refusal};
+ghost use Rattle.site.specs.Told.{kind_number};
+ghost use Rattle.rule.specs.OneRule.{code_declared, kind_at, rule_at};
+ghost use Rattle.rule.specs.Told.{kind_read, rule_read};
 
 use crate::head::Head;
-use number::{Num, Refusal, read_number};
-use site::{Rule, read_within};
+use number::{Answer, Fault, MOST, Read, Refusal, Side, read_number};
+use site::{Kind, Rule, read_tested};
 
-// What reading a rule finds: the rule with the place after it, or the refusal.
-#[derive(Clone, Copy)]
-pub enum RuleRead {
-    Read(Rule, usize),
-    Refused(Refusal),
-}
-
-impl RuleRead {
-    // The refusal, where there is one.
-    pub fn refusal(self) -> Refusal
-        ensures { result ≡ rule_read_refusal self }
-    {
-        match self {
-            RuleRead::Read(_, _) => Refusal::NONE,
-            RuleRead::Refused(r) => r,
-        }
+// "unknown rule kind"
+fn read_kind(s: &[u8], at: usize) -> Answer<Read<Kind>>
+    ensures { kind_read result ≡ kind_at s.now at }
+{
+    let read = read_number(s, at, MOST, Side::Rules);
+    let Ok(number) = read else {
+        return Err(read.unwrap_err());
+    };
+    match Kind::try_from(number.value) {
+        Ok(kind) => Ok(Read {
+            value: kind,
+            next: number.next,
+        }),
+        Err(_) => Err(Refusal::new(Fault::Kind, Side::Rules, at)),
     }
 }
 
 // "concept or role not declared"
-fn read_code(s: &[u8], head: Head, kind: u32, at: usize) -> Num
-    ensures { told result ≡ code_at s.now at (code_declared head kind) 0 }
+fn read_code(s: &[u8], head: Head, kind: Kind, at: usize) -> Answer<Read<u32>>
+    ensures { result ≡ code_at s.now at (code_declared head (kind_number kind)) Side.Rules }
 {
-    let got = read_number(s, at, Num::MOST, Refusal::RULES);
-    let Num::Value(code, _) = got else {
-        return got;
-    };
-    if head.has_code(kind, code) {
-        return got;
-    }
-    Num::Refused(Refusal {
-        number: Refusal::UNKNOWN,
-        side: Refusal::RULES,
-        place: at,
-        item: Refusal::NO_ITEM,
-    })
+    read_tested(
+        s,
+        at,
+        Fault::Unknown,
+        Side::Rules,
+        |code| head.has_code(kind, code),
+    )
 }
 
 // "A rule is its kind, then its codes"
-pub fn rule_at(s: &[u8], head: Head, at: usize) -> RuleRead
-    ensures { rule_read_told result ≡ rule_at head s.now at }
+#[tactic(auto, unfolding(crate::specs::OneRule::rule_at))]
+pub fn rule_at(s: &[u8], head: Head, at: usize) -> Answer<Read<Rule>>
+    ensures { rule_read result ≡ rule_at head s.now at }
 {
-    let first = read_within(s, at, Rule::LAST_KIND, Refusal::KIND, Refusal::RULES);
-    let Num::Value(kind, p) = first else {
-        return RuleRead::Refused(first.refusal());
-    };
-    let second = read_code(s, head, kind, p);
-    let Num::Value(x, q) = second else {
-        return RuleRead::Refused(second.refusal());
-    };
-    if kind == Rule::FUNCTIONAL {
-        return RuleRead::Read(Rule::new(kind, x, 0), q);
+    let kind = read_kind(s, at)?;
+    let x = read_code(s, head, kind.value, kind.next)?;
+    if kind.value == Kind::Functional {
+        return Ok(Read {
+            value: Rule::of_kind(kind.value, x.value, 0),
+            next: x.next,
+        });
     }
-    let third = read_code(s, head, kind, q);
-    let Num::Value(y, next) = third else {
-        return RuleRead::Refused(third.refusal());
-    };
-    RuleRead::Read(Rule::new(kind, x, y), next)
+    let y = read_code(s, head, kind.value, x.next)?;
+    Ok(Read {
+        value: Rule::of_kind(kind.value, x.value, y.value),
+        next: y.next,
+    })
 }

@@ -7,8 +7,11 @@ use mathlib.Core.List.{List, ◌∷◌, Memᴰ}
 use mathlib.Core.Logic.{⊎_elim}
 use lib.ListN.{length}
 use borrow.Author.Tests.{eq-eqb}
-use Rattle.number.specs.Answer.{Answer, Read, refusal, about, ◌then◌}
-use Rattle.number.specs.Answer.Answer.{gives, refuses}
+use Rattle.number.specs.Answer.{Answer, refusal, about, ◌then◌}
+use Rattle.number.specs.declared.read.Read.{Read}
+use Rattle.number.specs.declared.refusal.Fault.TheVariants.{Broken}
+use Rattle.number.specs.declared.refusal.Side.TheVariants.{Rules}
+use Rattle.std.specs.Prelude.{Ok, Err}
 use Rattle.number.proofs.Answers.{went, not_stopped, about_given, given_once}
 use Rattle.site.specs.Kinds.{Rule, Site, role_in}
 use Rattle.site.specs.Items.{items_from, end_at, onward}
@@ -33,12 +36,12 @@ module _ (h : Head) (s : List ℕ) (rules : List Rule) where
     where
       from : ((next : ℕ) → Memᴰ r (rules_in h s n next) → rule_declared whole r ≡ true) → (a : Answer (Read Rule)) → rule_at h s at ≡ a
           → Memᴰ r (onward a (λ f. f.value ∷ rules_in h s n f.next)) → rule_declared whole r ≡ true
-      from later (gives f) e m =
+      from later (Ok f) e m =
           ⊎_elim (λ k. subst (λ (x : Rule). rule_declared whole x ≡ true) (sym k) (rule_is_declared h rules s f at e)) (later f.next) (Memᴰ.cases_cons m)
-      from later (refuses f) e m = absurd (Memᴰ.not-nil m)
+      from later (Err f) e m = absurd (Memᴰ.not-nil m)
 
   -- the last walk found no functional rule broken
-  pub all_unbroken : (k n at : ℕ) (end : ℕ) → items_from (next_unbroken h s rules) k n at ≡ gives end → {r : Rule} → Memᴰ r (rules_in h s n at) → broken rules r ≡ false
+  pub all_unbroken : (k n at : ℕ) (end : ℕ) → items_from (next_unbroken h s rules) k n at ≡ Ok end → {r : Rule} → Memᴰ r (rules_in h s n at) → broken rules r ≡ false
   unfolding rules_in items_from next_unbroken
   all_unbroken k zero at end e m = absurd (Memᴰ.not-nil m)
   all_unbroken k (suc n) at end e {r} m =
@@ -46,30 +49,30 @@ module _ (h : Head) (s : List ℕ) (rules : List Rule) where
       from (all_unbroken (k + 1) n w.value end w.rest) (rule_at h s at) (about_given k (next_unbroken h s rules at) w.first) m
     where
       from : {next : ℕ} → (Memᴰ r (rules_in h s n next) → broken rules r ≡ false) → (a : Answer (Read Rule))
-          → (a then λ f. cond (broken rules f.value) (refuses (refusal 6 0 at)) (gives f.next)) ≡ gives next
+          → (a then λ f. cond (broken rules f.value) (Err (refusal Broken Rules at)) (Ok f.next)) ≡ Ok next
           → Memᴰ r (onward a (λ f. f.value ∷ rules_in h s n f.next)) → broken rules r ≡ false
-      from later (gives f) g m =
-          let one = not_stopped (broken rules f.value) (gives f.next) (refusal 6 0 at) g in
+      from later (Ok f) g m =
+          let one = not_stopped (broken rules f.value) (Ok f.next) (refusal Broken Rules at) g in
           ⊎_elim (λ same. subst (λ (x : Rule). broken rules x ≡ false) (sym same) one.test)
           (λ among. later (subst (λ (p : ℕ). Memᴰ r (rules_in h s n p)) (given_once one.answer) among)) (Memᴰ.cases_cons m)
-      from later (refuses f) g m = absurd (Memᴰ.not-nil m)
+      from later (Err f) g m = absurd (Memᴰ.not-nil m)
 
 -- what acceptance is made of
 pub record AcceptedRules (s : List ℕ) (h : Head) : Type 0 where
   pub end : ℕ
   pub last : ℕ
-  pub head : head_of s ≡ gives h
-  pub rules : rules_from h s h.rules h.start ≡ gives end
+  pub head : head_of s ≡ Ok h
+  pub rules : rules_from h s h.rules h.start ≡ Ok end
   pub at_end : length s ≤ end
-  pub whole : unbroken h s (rules_in h s h.rules h.start) h.rules h.start ≡ gives last
+  pub whole : unbroken h s (rules_in h s h.rules h.start) h.rules h.start ≡ Ok last
 
-pub accepted_rules : (s : List ℕ) (h : Head) → check_rules s ≡ gives h → AcceptedRules s h
+pub accepted_rules : (s : List ℕ) (h : Head) → check_rules s ≡ Ok h → AcceptedRules s h
 unfolding check_rules after_rules
 accepted_rules s h e =
     let first = went (head_of s) _ e in
     let g = first.value in
     let second = went (rules_from g s g.rules g.start) _ first.rest in
-    let third = went (end_at s second.value 0) _ second.rest in
+    let third = went (end_at s second.value Rules) _ second.rest in
     let fourth = went (unbroken g s (rules_in g s g.rules g.start) g.rules g.start) _ third.rest in
     subst (λ (k : Head). AcceptedRules s k) (given_once fourth.rest)
     (record {
@@ -77,11 +80,11 @@ accepted_rules s h e =
       last = fourth.value;
       head = first.first;
       rules = second.first;
-      at_end = end_there s second.value 0 third.value third.first;
+      at_end = end_there s second.value Rules third.value third.first;
       whole = fourth.first;
     })
 
-pub accepted_lawful : (s : List ℕ) (h : Head) → check_rules s ≡ gives h → Lawful (site_of s h)
+pub accepted_lawful : (s : List ℕ) (h : Head) → check_rules s ≡ Ok h → Lawful (site_of s h)
 unfolding site_of
 accepted_lawful s h e =
     let a = accepted_rules s h e in

@@ -2,9 +2,10 @@
 use Prim.Native.Nat.{ℕ}
 use mathlib.Core.Path.{◌≡◌, refl}
 use mathlib.Core.List.{List, [], ◌∷◌, map}
-use Rattle.number.specs.Answer.{Answer, refusal, of_item}
-use Rattle.number.specs.Answer.Answer.{gives, refuses}
+use Rattle.number.specs.Answer.{Answer, refusal, of_item, fault_of}
+use Rattle.std.specs.Prelude.{Ok, Err}
 use Rattle.number.specs.Number.{third, second, form_of, number_at}
+use Rattle.number.specs.declared.refusal.Side.TheVariants.{Rules}
 use Rattle.site.specs.Codes.{role_of, concept_of, concept_declared}
 use Rattle.site.specs.Items.{tested_at, at_most, items_from, end_at}
 use Rattle.site.specs.Lists.{any}
@@ -17,15 +18,15 @@ pub record Case : Type 0 where
   pub expected : Answer Head
 
 abbrev pub is : List ℕ → ℕ → ℕ → ℕ → ℕ → Case
-is bytes concepts roles rules start = record { bytes = bytes; expected = gives (record { concepts = concepts; roles = roles; rules = rules; start = start }) }
+is bytes concepts roles rules start = record { bytes = bytes; expected = Ok (record { concepts = concepts; roles = roles; rules = rules; start = start }) }
 
 -- refused in the header or after the last rule
 abbrev pub refused : List ℕ → ℕ → ℕ → Case
-refused bytes number place = record { bytes = bytes; expected = refuses (refusal number 0 place) }
+refused bytes number place = record { bytes = bytes; expected = Err (refusal (fault_of number) Rules place) }
 
 -- refused in a rule
 abbrev pub refused_in : ℕ → List ℕ → ℕ → ℕ → Case
-refused_in rule bytes number place = record { bytes = bytes; expected = refuses (of_item rule (refusal number 0 place)) }
+refused_in rule bytes number place = record { bytes = bytes; expected = Err (of_item rule (refusal (fault_of number) Rules place)) }
 
 abbrev pub cases : List Case
 cases =

@@ -1,10 +1,12 @@
 pub mod AcceptedFile
 pub mod AtLimits
 pub mod Cases
-pub mod Checking
 pub mod Exact
 pub mod Longest
 pub mod OneAnswer
 pub mod Refusals
 pub mod OfFaults
 pub mod ItemCases
+pub mod Checking
+pub mod Walking
+pub mod RightRoles

@@ -8,8 +8,11 @@ use lib.ListN.{length, take}
 use lib.Dec.{ltb, leb, eqb}
 use native.Mathlib.Omega.{arith}
 use borrow.Author.Tests.{lt-ltb, ltb-true}
-use Rattle.number.specs.Answer.{Read, about}
-use Rattle.number.specs.Answer.Answer.{gives}
+use Rattle.number.specs.Answer.{about}
+use Rattle.number.specs.declared.read.Read.{Read}
+use Rattle.number.specs.declared.refusal.Fault.TheVariants.{Count, Unknown, Kind}
+use Rattle.number.specs.declared.refusal.Side.TheVariants.{Rules}
+use Rattle.std.specs.Prelude.{Ok}
 use Rattle.number.proofs.Answers.{about_given, over_given, Given, given_gives, given_test, given_then, then_same}
 use Rattle.number.proofs.Laws.{Bytes, two_bytes, one_form, one_byte}
 use Rattle.site.specs.Codes.{concept_declared, role_declared}
@@ -48,48 +51,48 @@ code_low h kind x few = by_test (leb kind 1)
 
 -- how far a head, a rule and the rules reach
 module _ (s : List ℕ) (bytes : Bytes s) where
-  after_count : (at limit : ℕ) (n : Read ℕ) → limit < 128 → count_at s at limit 0 ≡ gives n → n.next ≡ at + 1
+  after_count : (at limit : ℕ) (n : Read ℕ) → limit < 128 → count_at s at limit Rules ≡ Ok n → n.next ≡ at + 1
   after_count at limit n small e =
-      let c = count_there s at limit 0 n e in
-      one_byte s at most_number 0 n.value n.next c.number bytes (omega (arith, c.within))
+      let c = count_there s at limit Rules n e in
+      one_byte s at most_number Rules n.value n.next c.number bytes (omega (arith, c.within))
 
-  after_kind : (at : ℕ) (n : Read ℕ) → kind_at s at ≡ gives n → n.next ≡ at + 1
+  after_kind : (at : ℕ) (n : Read ℕ) → kind_at s at ≡ Ok n → n.next ≡ at + 1
   after_kind at n e =
-      let c = tested_there s at (at_most last_kind) 11 0 n e in
-      one_byte s at most_number 0 n.value n.next c.number bytes (omega (arith, within_limit last_kind n.value c.holds))
+      let c = tested_there s at (at_most last_kind) Kind Rules n e in
+      one_byte s at most_number Rules n.value n.next c.number bytes (omega (arith, within_limit last_kind n.value c.holds))
 
   head_near : Given (λ h. h.start ≤ 4) (head_of s)
   unfolding head_of
   head_near =
-      given_then _ (count_at s 0 most_concepts 0) _
+      given_then _ (count_at s 0 most_concepts Rules) _
       (λ c e.
-      given_then _ (count_at s c.next most_roles 0) _
+      given_then _ (count_at s c.next most_roles Rules) _
       (λ q f.
-      given_then _ (count_at s q.next most_rules 0) _
+      given_then _ (count_at s q.next most_rules Rules) _
       (λ n g.
-      let k = count_there s q.next most_rules 0 n g in
-      let size = (one_form s q.next most_number 0 n.value n.next k.number bytes).size in
+      let k = count_there s q.next most_rules Rules n g in
+      let size = (one_form s q.next most_number Rules n.value n.next k.number bytes).size in
       let first = after_count 0 most_concepts c (omega arith) e in
       let second = after_count c.next most_roles q (omega arith) f in
       given_gives _ _ (omega (arith, two_bytes n.value (omega (arith, k.within)))))))
 
   module _ (h : Head) (few : h.roles ≤ most_roles) where
-    after_code : (kind at : ℕ) (n : Read ℕ) → code_at s at (code_declared h kind) 0 ≡ gives n → n.next ≡ at + 1
+    after_code : (kind at : ℕ) (n : Read ℕ) → code_at s at (code_declared h kind) Rules ≡ Ok n → n.next ≡ at + 1
     after_code kind at n e =
-        let c = tested_there s at (code_declared h kind) 5 0 n e in
-        one_byte s at most_number 0 n.value n.next c.number bytes (code_low h kind n.value few c.holds)
+        let c = tested_there s at (code_declared h kind) Unknown Rules n e in
+        one_byte s at most_number Rules n.value n.next c.number bytes (code_low h kind n.value few c.holds)
 
     rule_near : (at : ℕ) → Given (λ r. r.next ≤ at + 3) (rule_at h s at)
     unfolding rule_at
     rule_near at =
         given_then _ (kind_at s at) _
         (λ kind e.
-        given_then _ (code_at s kind.next (code_declared h kind.value) 0) _
+        given_then _ (code_at s kind.next (code_declared h kind.value) Rules) _
         (λ x f.
         let first = after_kind at kind e in
         let second = after_code kind.value kind.next x f in
         given_test _ (eqb kind.value functional_kind) _ _ (given_gives _ _ (omega arith))
-        (given_then _ (code_at s x.next (code_declared h kind.value) 0) _
+        (given_then _ (code_at s x.next (code_declared h kind.value) Rules) _
         (λ y g. given_gives _ _ (omega (arith, after_code kind.value x.next y g))))))
 
     next_near : (at : ℕ) → Given (λ next. next ≤ at + 3) (next_rule h s at)
@@ -105,13 +108,13 @@ module _ (s : List ℕ) (bytes : Bytes s) where
         given_then (λ end. end ≤ at + 3 * suc n) (about k (next_rule h s at)) (λ next. items_from (next_rule h s) (k + 1) n next)
         (λ next e end f. omega (arith, next_near at next (about_given k (next_rule h s at) e), rules_near (k + 1) n next end f))
 
-  walk_near : (h : Head) (end : ℕ) → head_of s ≡ gives h → rules_from h s h.rules h.start ≡ gives end → end ≤ longest
+  walk_near : (h : Head) (end : ℕ) → head_of s ≡ Ok h → rules_from h s h.rules h.start ≡ Ok end → end ≤ longest
   walk_near h end e f =
       let within = head_within s h e in
       omega (arith, head_near h e, within.rules, rules_near h within.roles 0 h.rules h.start end f)
 
 -- an accepted rule file has at most so many bytes
-pub accepted_short : (s : List ℕ) (h : Head) → Bytes s → check_rules s ≡ gives h → length s ≤ longest
+pub accepted_short : (s : List ℕ) (h : Head) → Bytes s → check_rules s ≡ Ok h → length s ≤ longest
 accepted_short s h bytes e =
     let a = accepted_rules s h e in
     omega (arith, a.at_end, walk_near s bytes h a.end a.head a.rules)
@@ -121,29 +124,29 @@ module _ (s t : List ℕ) (n : ℕ) (agree : take n s ≡ take n t) (bytes : Byt
   same_head : 5 ≤ n → head_of s ≡ head_of t
   unfolding head_of
   same_head h =
-      rw (← (same_tested s t n agree 0 (omega arith) (at_most most_concepts) 4 0))
-      (then_same (count_at s 0 most_concepts 0) _ _
+      rw (← (same_tested s t n agree 0 (omega arith) (at_most most_concepts) Count Rules))
+      (then_same (count_at s 0 most_concepts Rules) _ _
       (λ c e.
       let first = after_count s bytes 0 most_concepts c (omega arith) e in
-      rw (← (same_tested s t n agree c.next (omega arith) (at_most most_roles) 4 0))
-      (then_same (count_at s c.next most_roles 0) _ _
+      rw (← (same_tested s t n agree c.next (omega arith) (at_most most_roles) Count Rules))
+      (then_same (count_at s c.next most_roles Rules) _ _
       (λ q f.
       let second = after_count s bytes c.next most_roles q (omega arith) f in
-      rw (same_tested s t n agree q.next (omega arith) (at_most most_rules) 4 0)))))
+      rw (same_tested s t n agree q.next (omega arith) (at_most most_rules) Count Rules)))))
 
   module _ (h : Head) (few : h.roles ≤ most_roles) where
     same_rule : (at : ℕ) → at + 5 ≤ n → rule_at h s at ≡ rule_at h t at
     unfolding rule_at
     same_rule at k =
-        rw (← (same_tested s t n agree at (omega arith) (at_most last_kind) 11 0))
+        rw (← (same_tested s t n agree at (omega arith) (at_most last_kind) Kind Rules))
         (then_same (kind_at s at) _ _
         (λ kind e.
         let first = after_kind s bytes at kind e in
-        rw (← (same_tested s t n agree kind.next (omega arith) (code_declared h kind.value) 5 0))
-        (then_same (code_at s kind.next (code_declared h kind.value) 0) _ _
+        rw (← (same_tested s t n agree kind.next (omega arith) (code_declared h kind.value) Unknown Rules))
+        (then_same (code_at s kind.next (code_declared h kind.value) Rules) _ _
         (λ x f.
         let second = after_code s bytes h few kind.value kind.next x f in
-        rw (same_tested s t n agree x.next (omega arith) (code_declared h kind.value) 5 0)))))
+        rw (same_tested s t n agree x.next (omega arith) (code_declared h kind.value) Unknown Rules)))))
 
     same_next : (at : ℕ) → at + 5 ≤ n → next_rule h s at ≡ next_rule h t at
     unfolding next_rule

@@ -3,8 +3,10 @@ use Prim.Native.Nat.{ℕ}
 use mathlib.Core.Path.{◌≡◌, sym}
 use mathlib.Core.List.{List}
 use Rattle.number.specs.Answer.{◌then◌}
-use Rattle.number.specs.Answer.Answer.{gives, refuses}
+use Rattle.std.specs.Prelude.{Ok, Err}
 use Rattle.number.specs.declared.refusal.Refusal.{Refusal}
+use Rattle.number.specs.declared.refusal.Fault.TheVariants.{Count}
+use Rattle.number.specs.declared.refusal.Side.TheVariants.{Rules}
 use Rattle.number.proofs.Answers.{Halts, halts, never}
 use Rattle.number.proofs.Answers.Halts.{at_first, at_rest}
 use Rattle.number.proofs.Refusing.{Refuses, refuses_gives, refuses_then}
@@ -22,24 +24,24 @@ module _ (s : List ℕ) where
   head_of_none : Refuses OfNone (head_of s)
   unfolding head_of
   head_of_none =
-      refuses_then _ (count_at s 0 most_concepts 0) _ (tested_of_none s 0 (at_most most_concepts) 4 0)
+      refuses_then _ (count_at s 0 most_concepts Rules) _ (tested_of_none s 0 (at_most most_concepts) Count Rules)
       (λ c e.
-      refuses_then _ (count_at s c.next most_roles 0) _ (tested_of_none s c.next (at_most most_roles) 4 0)
+      refuses_then _ (count_at s c.next most_roles Rules) _ (tested_of_none s c.next (at_most most_roles) Count Rules)
       (λ q f.
-      refuses_then _ (count_at s q.next most_rules 0) _ (tested_of_none s q.next (at_most most_rules) 4 0) (λ n g. refuses_gives _ _)))
+      refuses_then _ (count_at s q.next most_rules Rules) _ (tested_of_none s q.next (at_most most_rules) Count Rules) (λ n g. refuses_gives _ _)))
 
   module _ (r : Refusal) where
-    module _ (h : Head) (is-head : head_of s ≡ gives h) where
-      module _ (end : ℕ) (read : rules_from h s h.rules h.start ≡ gives end) where
-        functional : Halts (unbroken h s (rules_in h s h.rules h.start) h.rules h.start) (λ last. gives h) r → RulesFault s r
+    module _ (h : Head) (is-head : head_of s ≡ Ok h) where
+      module _ (end : ℕ) (read : rules_from h s h.rules h.start ≡ Ok end) where
+        functional : Halts (unbroken h s (rules_in h s h.rules h.start) h.rules h.start) (λ last. Ok h) r → RulesFault s r
         functional (at_first e) = of_functional h end is-head read (of_item_lem (next_unbroken h s (rules_in h s h.rules h.start)) h.rules h.start r e)
         functional (at_rest last f e) = absurd (never (sym e))
 
-        ends : Halts (end_at s end 0) (λ at. unbroken h s (rules_in h s h.rules h.start) h.rules h.start then λ last. gives h) r → RulesFault s r
-        ends (at_first e) = after_last h end is-head read e (end_of_none s end 0 r e)
+        ends : Halts (end_at s end Rules) (λ at. unbroken h s (rules_in h s h.rules h.start) h.rules h.start then λ last. Ok h) r → RulesFault s r
+        ends (at_first e) = after_last h end is-head read e (end_of_none s end Rules r e)
         ends (at_rest at f e) = functional (halts _ _ r e)
 
-        after : after_rules s h end ≡ refuses r → RulesFault s r
+        after : after_rules s h end ≡ Err r → RulesFault s r
         unfolding after_rules
         after e = ends (halts _ _ r e)
 
@@ -51,6 +53,6 @@ module _ (s : List ℕ) where
     head (at_first e) = in_header e (head_of_none r e)
     head (at_rest h f e) = rules h f (halts _ _ r e)
 
-    pub rules_fault : check_rules s ≡ refuses r → RulesFault s r
+    pub rules_fault : check_rules s ≡ Err r → RulesFault s r
     unfolding check_rules
     rules_fault e = head (halts _ _ r e)

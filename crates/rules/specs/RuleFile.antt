@@ -1,7 +1,9 @@
 -- The rule file: its rules, or its refusal, as a function of its bytes.
 use Rattle.std.specs.Prelude.{ℕ, zero, suc, Bool, false, cond, List, [], ◌∷◌, eqb}
 use Rattle.number.specs.Answer.{Answer, refusal, over, ◌then◌}
-use Rattle.number.specs.Answer.Answer.{gives, refuses}
+use Rattle.number.specs.declared.refusal.Fault.TheVariants.{Broken}
+use Rattle.number.specs.declared.refusal.Side.TheVariants.{Rules}
+use Rattle.std.specs.Prelude.{Ok, Err}
 use Rattle.site.specs.Kinds.{Rule, Site, role_in}
 use Rattle.site.specs.Kinds.Rule.{included, disjoint, role_included, role_disjoint, functional}
 use Rattle.site.specs.Lists.{any}
@@ -40,7 +42,7 @@ broken rules (role_disjoint p q) = false
 
 -- refusal 6: "a functional role stands on the right of a kind 2 rule", at "the kind of the first functional rule so broken"
 unfoldable pub next_unbroken : Head → List ℕ → List Rule → ℕ → Answer ℕ
-next_unbroken h s rules at = rule_at h s at then λ r. cond (broken rules r.value) (refuses (refusal 6 0 at)) (gives r.next)
+next_unbroken h s rules at = rule_at h s at then λ r. cond (broken rules r.value) (Err (refusal Broken Rules at)) (Ok r.next)
 
 -- so many rules from a place on, none of them broken
 abbrev pub unbroken : Head → List ℕ → List Rule → ℕ → ℕ → Answer ℕ
@@ -49,9 +51,9 @@ unbroken h s rules n at = items_from (next_unbroken h s rules) 0 n at
 -- "After the last item 7, then 6."
 unfoldable pub after_rules : List ℕ → Head → ℕ → Answer Head
 after_rules s h end =
-    end_at s end 0 then λ _.
+    end_at s end Rules then λ _.
     unbroken h s (rules_in h s h.rules h.start) h.rules h.start then λ _.
-    gives h
+    Ok h
 
 -- the whole reading
 unfoldable pub check_rules : List ℕ → Answer Head

@@ -2,5 +2,7 @@
 #![tactic(auto)]
 
 mod check;
+mod walk;
 
-pub use check::{RulesRead, check_rules};
+pub use check::check_rules;
+pub use walk::RulesOf;

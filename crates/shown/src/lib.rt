@@ -5,9 +5,6 @@ mod shapes;
 mod show;
 
 pub use shapes::{
-    DzyAnswer, DzyAsked, DzyCounts, DzyLength, DzyRefusal, DzyStart, DzyYield, is_refused,
-    not_refused,
+    DzyAnswer, DzyAsked, DzyCounts, DzyLength, DzyRefusal, DzyStart, DzyYield, NO_ITEM,
 };
-pub use show::{
-    show_answer, show_asked, show_counts, show_length, show_row, show_start, show_yield,
-};
+pub use show::{show_answer, show_asked, show_counts, show_length, show_start, show_yield};

@@ -1,9 +1,12 @@
 // The answers as C sees them: plain structs by value, with zeros in the fields that do not apply.
 ghost use Rattle.std.specs.Prelude.{◌≡◌};
-ghost use Rattle.shown.specs.Shown.{not_refused, refused};
+ghost use Rattle.shown.specs.Shown.{refused};
 
 use number::Refusal;
 use records::Record;
+
+// The item of a refusal that is about none.
+pub const NO_ITEM: u32 = 65535;
 
 // A refusal's number, side, place and item; number 0: not refused.
 #[repr(C)]
@@ -13,6 +16,29 @@ pub struct DzyRefusal {
     pub side: u32,
     pub place: u64,
     pub item: u32,
+}
+
+impl DzyRefusal {
+    // Not refused.
+    pub const NONE: Self = Self {
+        number: 0,
+        side: 0,
+        place: 0,
+        item: 0,
+    };
+}
+
+impl From<Refusal> for DzyRefusal {
+    ghost from_gives = { λ r shown. shown ≡ refused r };
+
+    fn from(r: Refusal) -> Self {
+        Self {
+            number: u32::from(r.fault),
+            side: u32::from(r.side),
+            place: r.place as u64,
+            item: r.item.unwrap_or(NO_ITEM),
+        }
+    }
 }
 
 #[repr(C)]
@@ -63,26 +89,4 @@ pub struct DzyYield {
     pub refused: DzyRefusal,
     pub found: u32,
     pub fact: Record,
-}
-
-pub fn not_refused() -> DzyRefusal
-    ensures { result ≡ not_refused }
-{
-    DzyRefusal {
-        number: 0,
-        side: 0,
-        place: 0,
-        item: 0,
-    }
-}
-
-pub fn is_refused(r: Refusal) -> DzyRefusal
-    ensures { result ≡ refused r }
-{
-    DzyRefusal {
-        number: r.number,
-        side: r.side,
-        place: r.place as u64,
-        item: r.item,
-    }
 }

@@ -1,31 +1,26 @@
 // An answer turned into the struct that C sees.
 ghost use Rattle.std.specs.Prelude.{◌≡◌};
-ghost use Rattle.writer.specs.Pushed.{wrote_told};
-ghost use Rattle.records.specs.Told.{start_told, yield_told};
-ghost use Rattle.operations.specs.Promises.{counted_told, asked_told, replied_told};
-ghost use Rattle.shown.specs.Shown.{shown_counts, shown_asked, shown_answer, shown_length, shown_row, shown_start, shown_yield, no_record};
+ghost use Rattle.shown.specs.Shown.{shown_counts, shown_asked, shown_answer, shown_length, shown_start, shown_yield};
 
-use crate::shapes::{
-    DzyAnswer, DzyAsked, DzyCounts, DzyLength, DzyRefusal, DzyStart, DzyYield, is_refused,
-    not_refused,
-};
-use operations::{Asked, Counted, Replied};
-use records::{Record, RowAnswer, Started, Yield};
-use writer::BundleWrote;
+use crate::shapes::{DzyAnswer, DzyAsked, DzyCounts, DzyLength, DzyRefusal, DzyStart, DzyYield};
+use clashes::{Counts, Judged};
+use number::Answer;
+use records::Record;
+use site::Fact;
 
-pub fn show_counts(a: Counted) -> DzyCounts
-    ensures { result ≡ shown_counts (counted_told a) }
+pub fn show_counts(a: Answer<Counts>) -> DzyCounts
+    ensures { result ≡ shown_counts a }
 {
     match a {
-        Counted::Counts(c) => DzyCounts {
-            refused: not_refused(),
+        Ok(c) => DzyCounts {
+            refused: DzyRefusal::NONE,
             facts: c.facts,
             kept: c.kept,
             alone: c.alone,
             disputed: c.disputed,
         },
-        Counted::Refused(r) => DzyCounts {
-            refused: is_refused(r),
+        Err(r) => DzyCounts {
+            refused: DzyRefusal::from(r),
             facts: 0,
             kept: 0,
             alone: 0,
@@ -34,118 +29,100 @@ pub fn show_counts(a: Counted) -> DzyCounts
     }
 }
 
-pub fn show_asked(a: Asked) -> DzyAsked
-    ensures { result ≡ shown_asked (asked_told a) }
+pub fn show_asked(a: Answer<Judged>) -> DzyAsked
+    ensures { result ≡ shown_asked a }
 {
     match a {
-        Asked::Judged(j) => DzyAsked {
-            refused: not_refused(),
-            mark: j.mark,
-            partner: j.partner,
+        Ok(j) => DzyAsked {
+            refused: DzyRefusal::NONE,
+            mark: j.mark(),
+            partner: j.partner(),
         },
-        Asked::Refused(r) => DzyAsked {
-            refused: is_refused(r),
+        Err(r) => DzyAsked {
+            refused: DzyRefusal::from(r),
             mark: 0,
             partner: 0,
         },
     }
 }
 
-pub fn show_answer(a: Replied) -> DzyAnswer
-    ensures { result ≡ shown_answer (replied_told a) }
+pub fn show_answer(a: Answer<Option<u32>>) -> DzyAnswer
+    ensures { result ≡ shown_answer a }
 {
     match a {
-        Replied::Yes(n) => DzyAnswer {
-            refused: not_refused(),
+        Ok(Some(fact)) => DzyAnswer {
+            refused: DzyRefusal::NONE,
             yes: 1,
-            fact: n,
+            fact,
         },
-        Replied::No => DzyAnswer {
-            refused: not_refused(),
+        Ok(None) => DzyAnswer {
+            refused: DzyRefusal::NONE,
             yes: 0,
             fact: 0,
         },
-        Replied::Refused(r) => DzyAnswer {
-            refused: is_refused(r),
+        Err(r) => DzyAnswer {
+            refused: DzyRefusal::from(r),
             yes: 0,
             fact: 0,
         },
     }
 }
 
-pub fn show_length(a: BundleWrote) -> DzyLength
-    ensures { result ≡ shown_length (wrote_told a) }
+pub fn show_length(a: Answer<usize>) -> DzyLength
+    ensures { result ≡ shown_length a }
 {
     match a {
-        BundleWrote::Written(n) => DzyLength {
-            refused: not_refused(),
-            length: n as u64,
+        Ok(length) => DzyLength {
+            refused: DzyRefusal::NONE,
+            length: length as u64,
         },
-        BundleWrote::Refused(r) => DzyLength {
-            refused: is_refused(r),
+        Err(r) => DzyLength {
+            refused: DzyRefusal::from(r),
             length: 0,
         },
     }
 }
 
-pub fn show_row(a: RowAnswer) -> DzyLength
-    ensures { result ≡ shown_row a }
-{
-    DzyLength {
-        refused: DzyRefusal {
-            number: a.number,
-            side: a.side,
-            place: a.place as u64,
-            item: a.item,
-        },
-        length: a.length as u64,
-    }
-}
-
-pub fn show_start(a: Started) -> DzyStart
-    ensures { result ≡ shown_start (start_told a) }
+pub fn show_start(a: Answer<usize>) -> DzyStart
+    ensures { result ≡ shown_start a }
 {
     match a {
-        Started::At(at) => DzyStart {
-            refused: not_refused(),
+        Ok(at) => DzyStart {
+            refused: DzyRefusal::NONE,
             at: at as u64,
         },
-        Started::Refused(r) => DzyStart {
-            refused: is_refused(r),
+        Err(r) => DzyStart {
+            refused: DzyRefusal::from(r),
             at: 0,
         },
     }
 }
 
 // The record beside a refusal and beside the end.
-fn no_record() -> Record
-    ensures { result ≡ no_record }
-{
-    Record {
-        predicate: 0,
-        subject: 0,
-        object: 0,
-    }
-}
+const NO_RECORD: Record = Record {
+    predicate: 0,
+    subject: 0,
+    object: 0,
+};
 
-pub fn show_yield(a: Yield) -> DzyYield
-    ensures { result ≡ shown_yield (yield_told a) }
+pub fn show_yield(a: Answer<Option<Fact>>) -> DzyYield
+    ensures { result ≡ shown_yield a }
 {
     match a {
-        Yield::Fact(fact) => DzyYield {
-            refused: not_refused(),
+        Ok(Some(fact)) => DzyYield {
+            refused: DzyRefusal::NONE,
             found: 1,
-            fact: Record::of(fact),
+            fact: Record::from(fact),
         },
-        Yield::Refused(r) => DzyYield {
-            refused: is_refused(r),
+        Ok(None) => DzyYield {
+            refused: DzyRefusal::NONE,
             found: 0,
-            fact: no_record(),
+            fact: NO_RECORD,
         },
-        Yield::Done => DzyYield {
-            refused: not_refused(),
+        Err(r) => DzyYield {
+            refused: DzyRefusal::from(r),
             found: 0,
-            fact: no_record(),
+            fact: NO_RECORD,
         },
     }
 }

@@ -9,6 +9,7 @@ use mathlib.Core.List.{List, [], ◌∷◌, ◌++◌, Memᴰ}
 use lib.ListN.{length, get_or}
 use native.Mathlib.Omega.{arith}
 use native.Mathlib.Decide.{ℕ_discrete}
+use Rattle.std.specs.List.{list_any}
 use Rattle.site.specs.Lists.{up_to, any, count, keep, first, each}
 
 -- a test passes or it does not, and not both
@@ -76,6 +77,12 @@ module _ {A : Type 0} (p : A → Bool) where
   unfolding any
   any_of (Memᴰ.head {x = y} {xs = ys} e) h = or_left (p y) (any p ys) (subst (λ z. p z ≡ true) e h)
   any_of (Memᴰ.tail {x = y} {xs = ys} m) h = or_right (p y) (any p ys) (any_of m h)
+
+  -- the same as the library has it
+  pub library_any : (l : List A) → list_any p l ≡ any p l
+  unfolding any
+  library_any [] = refl
+  library_any (x ∷ xs) = ap (λ (b : Bool). p x || b) (library_any xs)
 
   pub any_none : (l : List A) → any p l ≡ false → {x : A} → Memᴰ x l → p x ≡ false
   any_none l e m = is_false (λ h. true_not_false (any_of m h) e)

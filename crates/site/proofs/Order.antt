@@ -1,4 +1,5 @@
--- The order of facts, "by predicate, then subject, then object", as a family of three cases: it is transitive, and no fact is below itself.
+-- The order of facts, "by predicate, then subject, then object", as a family of three cases: it is transitive, no fact is below itself, and
+-- the code's `<` is it.
 use Prim.Native.Nat.{◌<◌}
 use mathlib.Core.Path.{◌≡◌}
 use mathlib.Core.Bool.{Bool, true, false, ◌&&◌, ◌||◌}
@@ -6,7 +7,10 @@ use mathlib.Core.Logic.{◌⊎◌, inl, inr}
 use lib.Dec.{eqb, ltb}
 use borrow.Author.Tests.{ltb-true, lt-ltb, eqb-true, eq-eqb}
 use native.Mathlib.Omega.{arith}
+use borrow.Author.Rules.{rules}
+use Rattle.std.specs.Ordering.{partial_lt}
 use Rattle.site.specs.Kinds.{below}
+use Rattle.site.specs.contracts.fact.FactPartialOrd.TheImpl.{partial_cmp-value}
 use Rattle.site.specs.declared.fact.Fact.{Fact}
 use Rattle.site.proofs.Lists.{or_cases, or_left, or_right, and_left, and_right, and_both, is_false}
 
@@ -69,3 +73,7 @@ not_below_itself (in_object p s o) = omega arith
 -- no fact is below itself
 pub below_irreflexive : (f : Fact) → below f f ≡ false
 below_irreflexive f = is_false (λ e. not_below_itself (below_is f f e))
+
+-- the code's `f < g`
+pub less_is_below : (f g : Fact) → partial_lt partial_cmp-value.it f g ≡ below f g
+less_is_below f g = search rules

@@ -1,10 +1,11 @@
 // A fact, and the order of facts.
 ghost use Rattle.std.specs.Prelude.{◌≡◌, ◌-◌};
-ghost use Rattle.site.specs.Kinds.{below, of_concept};
+ghost use Rattle.site.specs.Kinds.{of_concept};
 
 use crate::nodes::{Concept, Role};
 
-#[derive(Clone, Copy)]
+// "Facts ascend strictly by predicate, then subject, then object": the order of the fields here, and so of `<`, which `less_is_below` says.
+#[derive(Clone, Copy, PartialEq, Eq, PartialOrd, Ord)]
 pub struct Fact {
     pub predicate: u32,
     pub subject: u32,
@@ -45,22 +46,6 @@ impl Fact {
     pub fn role(self) -> Role
         ensures { result ≡ record { number = self.predicate - 64 } }
     {
-        if self.predicate < Concept::COUNT {
-            return Role::new(0);
-        }
-        Role::new(self.predicate - Concept::COUNT)
-    }
-
-    // "Facts ascend strictly by predicate, then subject, then object."
-    pub fn below(self, other: Fact) -> bool
-        ensures { result ≡ below self other }
-    {
-        if self.predicate != other.predicate {
-            return self.predicate < other.predicate;
-        }
-        if self.subject != other.subject {
-            return self.subject < other.subject;
-        }
-        self.object < other.object
+        Role::new(self.predicate.saturating_sub(Concept::COUNT))
     }
 }

@@ -1,60 +1,47 @@
-// Reading a number that may not be over a limit and finding the end: what rule files and bundles have in common.
-ghost use Rattle.std.specs.Prelude.{◌≡◌};
-ghost use Rattle.number.specs.Told.{told};
+// Reading a number that has to pass a test and finding the end: what rule files and bundles have in common.
+ghost use Rattle.std.specs.Prelude.{◌≡◌, ℕ, Bool, ◌<◌, ◌^◌};
 ghost use Rattle.site.specs.Items.{tested_at, at_most, end_at};
-ghost use Rattle.site.specs.Told.{end_told, end_refusal};
 
-use number::{Num, Refusal, read_number};
+use number::{Answer, Fault, MOST, Read, Refusal, Side, read_number};
 
-// A number that may not be over a limit of its own; what is over it is refused by this number.
-pub fn read_within(s: &[u8], at: usize, limit: u32, number: u32, side: u32) -> Num
-    ensures { told result ≡ tested_at s.now at (at_most limit) number side }
+// A number with a test of its own; what fails it is refused by this fault, at its first byte.
+pub fn read_tested<F: FnOnce(u32) -> bool>(
+    s: &[u8],
+    at: usize,
+    fault: Fault,
+    side: Side,
+    test: F,
+) -> Answer<Read<u32>>
+    requires { F.IsAlwaysCallable test }
+    ensures { (t : ℕ → Bool) → ((n : ℕ) (b : Bool) → n < 2 ^ 32 → F.post test n b → b ≡ t n)
+        → result ≡ tested_at s.now at t fault side }
 {
-    let got = read_number(s, at, Num::MOST, side);
-    let Num::Value(value, _) = got else {
-        return got;
+    let number = read_number(s, at, MOST, side);
+    let Ok(read) = number else {
+        return Err(number.unwrap_err());
     };
-    if value <= limit {
-        return got;
+    if test(read.value) {
+        Ok(read)
+    } else {
+        Err(Refusal::new(fault, side, at))
     }
-    Num::Refused(Refusal {
-        number,
-        side,
-        place: at,
-        item: Refusal::NO_ITEM,
-    })
 }
 
-// Where a run of items ends, or the refusal of one of them.
-#[derive(Clone, Copy)]
-pub enum End {
-    At(usize),
-    Refused(Refusal),
-}
-
-impl End {
-    // The refusal, where there is one.
-    pub fn refusal(self) -> Refusal
-        ensures { result ≡ end_refusal self }
-    {
-        match self {
-            End::At(_) => Refusal::NONE,
-            End::Refused(r) => r,
-        }
-    }
+// A number that may not be over a limit of its own.
+#[tactic(auto, unfolding(crate::specs::Items::at_most))]
+pub fn read_within(s: &[u8], at: usize, limit: u32, fault: Fault, side: Side) -> Answer<Read<u32>>
+    ensures { result ≡ tested_at s.now at (at_most limit) fault side }
+{
+    read_tested(s, at, fault, side, |value| value <= limit)
 }
 
 // No byte may stand after the last item.
-pub fn read_end(s: &[u8], at: usize, side: u32) -> End
-    ensures { end_told result ≡ end_at s.now at side }
+#[tactic(auto, unfolding(crate::specs::Items::end_at))]
+pub fn read_end(s: &[u8], at: usize, side: Side) -> Answer<usize>
+    ensures { result ≡ end_at s.now at side }
 {
     if at < s.len() {
-        return End::Refused(Refusal {
-            number: Refusal::AFTER,
-            side,
-            place: at,
-            item: Refusal::NO_ITEM,
-        });
+        return Err(Refusal::new(Fault::After, side, at));
     }
-    End::At(at)
+    Ok(at)
 }

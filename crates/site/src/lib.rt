@@ -8,7 +8,7 @@ mod nodes;
 mod rule;
 
 pub use fact::Fact;
-pub use items::{End, read_end, read_within};
+pub use items::{read_end, read_tested, read_within};
 pub use limits::{Limits, limits_of_kinds};
-pub use nodes::{BasicConcept, BasicRole, Concept, Declared, Role, wide};
-pub use rule::Rule;
+pub use nodes::{BasicConcept, BasicRole, Concept, Declared, HasNode, Role};
+pub use rule::{Kind, Rule, UnknownKind};

@@ -29,8 +29,8 @@ pub fn limits_of_kinds() -> Limits
         last_kind: Rule::LAST_KIND,
         functional_kind: Rule::FUNCTIONAL,
         facts: Fact::MOST,
-        number: number::Num::MOST,
-        thing: number::Num::MOST,
+        number: number::MOST,
+        thing: number::MOST,
         no_partner: Fact::NO_PARTNER,
     }
 }

@@ -1,17 +1,18 @@
 // Concepts and roles, basic concepts and basic roles, and what a rule file declares of them.
-ghost use Rattle.std.specs.Prelude.{◌≡◌, ◌/◌, ◌<◌};
-ghost use Rattle.site.specs.Kinds.{turned};
-ghost use Rattle.site.specs.Kinds.BasicRole.{forward, inverse};
+ghost use Rattle.std.specs.Prelude.{◌≡◌, ◌<◌, ◌^◌};
+ghost use Rattle.site.specs.Kinds.{turned, role_in, Node};
 ghost use Rattle.site.specs.Kinds.BasicConcept.{named, some};
 ghost use Rattle.site.specs.Kinds.Node.{concept, role};
 ghost use Rattle.site.specs.Codes.{role_of, role_code, concept_of, node_code, role_declared, concept_declared, predicate_declared};
-ghost use Rattle.site.specs.Told.{Code};
+ghost use Rattle.site.specs.Told.{basic_role_told, basic_concept_told};
 
-// A number as a wider one.
-pub fn wide(x: u32) -> usize
-    ensures { (result ≡ x) × (result < 4294967296) }
-{
-    x as usize
+// What has a node of its own: a basic concept, or a basic role.
+pub trait HasNode: Copy {
+    ghost node_told: { Self → Node };
+
+    // Its number among the nodes.
+    fn node(self) -> usize
+        ensures { result ≡ node_code (node_told self) };
 }
 
 #[derive(Clone, Copy)]
@@ -33,7 +34,7 @@ impl Concept {
     pub fn node(self) -> usize
         ensures { result ≡ node_code (concept (named self.number)) }
     {
-        wide(self.number)
+        self.number as usize
     }
 }
 
@@ -51,118 +52,109 @@ impl Role {
     {
         Self { number }
     }
-
-    // "2j for role j"
-    pub fn forward(self) -> usize
-        ensures { Code (role_code (forward self.number)) result }
-    {
-        2 * wide(self.number)
-    }
-
-    // "2j+1 for its inverse"
-    pub fn inverse(self) -> usize
-        ensures { Code (role_code (inverse self.number)) result }
-    {
-        2 * wide(self.number) + 1
-    }
-
-    // The number among the nodes of having some partner by it.
-    pub fn some_forward(self) -> usize
-        ensures { result ≡ node_code (concept (some (forward self.number))) }
-    {
-        wide(Concept::COUNT) + self.forward()
-    }
-
-    // That of having some partner by its inverse.
-    pub fn some_inverse(self) -> usize
-        ensures { result ≡ node_code (concept (some (inverse self.number))) }
-    {
-        wide(Concept::COUNT) + self.inverse()
-    }
-
-    // That of the role itself.
-    pub fn forward_node(self) -> usize
-        ensures { result ≡ node_code (role (forward self.number)) }
-    {
-        wide(BasicConcept::COUNT) + self.forward()
-    }
-
-    // That of its inverse.
-    pub fn inverse_node(self) -> usize
-        ensures { result ≡ node_code (role (inverse self.number)) }
-    {
-        wide(BasicConcept::COUNT) + self.inverse()
-    }
 }
 
+// A role in one direction or the other.
 #[derive(Clone, Copy)]
-pub struct BasicRole {
-    pub code: u32,
+pub enum BasicRole {
+    Forward(Role),
+    Inverse(Role),
 }
 
 impl BasicRole {
-    // "2j for role j, 2j+1 for its inverse"
     pub const COUNT: u32 = 64;
 
+    // The basic role of a code, "2j for role j, 2j+1 for its inverse".
+    #[tactic(auto, unfolding(crate::specs::Codes::role_of))]
     pub fn new(code: u32) -> Self
-        ensures { result ≡ record { code = code } }
+        ensures { basic_role_told result ≡ role_of code }
     {
-        Self { code }
+        let role = Role::new(code / 2);
+        if code % 2 == 0 {
+            Self::Forward(role)
+        } else {
+            Self::Inverse(role)
+        }
+    }
+
+    // Its code, small enough that more may be added to it.
+    pub fn code(self) -> usize
+        ensures exact { result ≡ role_code (basic_role_told self) }
+        ensures small { result < 2 ^ 33 }
+    {
+        match self {
+            Self::Forward(r) => 2 * r.number as usize,
+            Self::Inverse(r) => 2 * r.number as usize + 1,
+        }
     }
 
     // "The inverse of a basic role swaps the two."
     pub fn inverse(self) -> Self
-        ensures { role_of result.code ≡ turned (role_of self.code) }
+        ensures { basic_role_told result ≡ turned (basic_role_told self) }
     {
-        let code = self.code;
-        if code % 2 == 0 {
-            return Self { code: code + 1 };
+        match self {
+            Self::Forward(r) => Self::Inverse(r),
+            Self::Inverse(r) => Self::Forward(r),
         }
-        Self { code: code - 1 }
     }
 
     // The role of which it is the one or the other direction.
     pub fn role(self) -> Role
-        ensures { result ≡ record { number = self.code / 2 } }
+        ensures { result ≡ record { number = role_in (basic_role_told self) } }
     {
-        Role::new(self.code / 2)
+        match self {
+            Self::Forward(r) => r,
+            Self::Inverse(r) => r,
+        }
     }
 
     // The number among the nodes of "64+q for 'has some partner by q'".
     pub fn some_node(self) -> usize
-        ensures { result ≡ node_code (concept (some (role_of self.code))) }
+        ensures { result ≡ node_code (concept (some (basic_role_told self))) }
     {
-        wide(Concept::COUNT) + wide(self.code)
-    }
-
-    // Its own number among the nodes.
-    pub fn node(self) -> usize
-        ensures { result ≡ node_code (role (role_of self.code)) }
-    {
-        wide(BasicConcept::COUNT) + wide(self.code)
+        Concept::COUNT as usize + self.code()
     }
 }
 
+impl HasNode for BasicRole {
+    ghost node_told = { λ q. role (basic_role_told q) };
+
+    fn node(self) -> usize {
+        BasicConcept::COUNT as usize + self.code()
+    }
+}
+
+// A concept, or having some partner by a basic role.
 #[derive(Clone, Copy)]
-pub struct BasicConcept {
-    pub code: u32,
+pub enum BasicConcept {
+    Named(Concept),
+    SomeBy(BasicRole),
 }
 
 impl BasicConcept {
-    // "a concept's code i, or 64+q for 'has some partner by q', 64 to 127"
     pub const COUNT: u32 = 128;
 
+    // The basic concept of a code, "a concept's code i, or 64+q for 'has some partner by q', 64 to 127".
+    #[tactic(auto, unfolding(crate::specs::Codes::concept_of))]
     pub fn new(code: u32) -> Self
-        ensures { result ≡ record { code = code } }
+        ensures { basic_concept_told result ≡ concept_of code }
     {
-        Self { code }
+        if code < Concept::COUNT {
+            Self::Named(Concept::new(code))
+        } else {
+            Self::SomeBy(BasicRole::new(code - Concept::COUNT))
+        }
     }
+}
 
-    // Its number among the nodes.
-    pub fn node(self) -> usize
-        ensures { result ≡ node_code (concept (concept_of self.code)) }
-    {
-        wide(self.code)
+impl HasNode for BasicConcept {
+    ghost node_told = { λ b. concept (basic_concept_told b) };
+
+    fn node(self) -> usize {
+        match self {
+            Self::Named(c) => c.node(),
+            Self::SomeBy(q) => q.some_node(),
+        }
     }
 }
 
@@ -182,6 +174,7 @@ impl Declared {
     }
 
     // Is a basic concept's code declared?
+    #[tactic(auto, unfolding(crate::specs::Codes::concept_declared))]
     pub fn has_concept(self, code: u32) -> bool
         ensures { result ≡ concept_declared self.concepts self.roles code }
     {
@@ -192,6 +185,7 @@ impl Declared {
     }
 
     // Is a fact's predicate declared?
+    #[tactic(auto, unfolding(crate::specs::Codes::predicate_declared))]
     pub fn has_predicate(self, code: u32) -> bool
         ensures { result ≡ predicate_declared self.concepts self.roles code }
     {

@@ -1,67 +1,24 @@
 -- What each turn of the passes over a table does. Going through a node keeps the nodes before it gone through: of two entries that meet at one
 -- of those, each was there or came by way of the new node.
-use Prim.Native.Nat.{ℕ, ◌+◌, ◌-◌, ◌*◌, ◌<◌, ◌≤◌}
-use mathlib.Core.Path.{◌≡◌, sym, ap, subst, ◌∙◌}
-use mathlib.Core.Bool.{Bool, true, false, false≢true, not}
-use mathlib.Core.List.{List}
-use native.Mathlib.Omega.{arith}
-use native.Mathlib.Decide.{ℕ_discrete}
-use borrow.Author.Tests.{lt-ltb, le-ltb, not-true, not-false}
+use Prim.Native.Nat.{ℕ, ◌<◌}
+use mathlib.Core.Path.{◌≡◌, sym, subst, ◌∙◌}
+use mathlib.Core.Bool.{Bool, true, false, false≢true}
+use mathlib.Core.Logic.{◌⊎◌, inl, inr}
+use mathlib.Core.List.Memᴰ
+use mathlib.Core.List.{List, [], ◌∷◌, ◌++◌, Memᴰ}
 use borrow.Author.Rules.{rules}
 use Rattle.steps.specs.Closed.Closed.{here, one, on}
-use Rattle.tables.specs.Bits.{has, Has, IsTable, Added, CameAdded, Joined, CameJoined}
+use Rattle.tables.specs.Bits.{has, Has, Added, CameAdded, Joined, CameJoined}
 use Rattle.tables.specs.Bits.CameAdded.{old_one, new_one}
 use Rattle.tables.specs.Bits.CameJoined.{old_one as old-join, from_row}
-use Rattle.tables.specs.Listed.{count_of, node_at, Listed}
-use Rattle.tables.specs.Passes.{Through, Pulled, PassedTo, Passed, CameReflected, ReflectedTo, Reflected, Within, Reach, TurnedTo, Turned, Closes}
+use Rattle.tables.specs.Listed.{nodes_of, Listed}
+use Rattle.tables.specs.Passes.{Through, Passed, CameReflected, Reflected, Within, Reach, Turned, Closes}
 use Rattle.tables.specs.Passes.Through.{at_once, by_way}
 use Rattle.tables.specs.Passes.CameReflected.{at_once as stood, itself}
+use Rattle.tables.proofs.OfNodes.{in_nodes, of_nodes}
 use Rattle.tables.proofs.Words.{in_row}
 
--- the declared nodes
-module _ (c r : ℕ) where
-  pub counted : (m n : ℕ) → m ≡ c → n ≡ r → m + 4 * n ≡ count_of c r
-  counted m n e f = omega arith
-
-  pub at_concept : (i m : ℕ) → m ≡ c → i < m → i ≡ node_at c r i
-  unfolding node_at
-  at_concept i m e h = rw (lt-ltb i c (omega arith))
-
-  module _ (i : ℕ) (b : i < count_of c r) (m n : ℕ) (e : m ≡ c) (f : n ≡ r) where
-    pub at_some : (w : ℕ) → w ≡ 64 → m ≤ i → i - m < 2 * n → w + (i - m) ≡ node_at c r i
-    unfolding node_at
-    at_some w z h k = rw (le-ltb i c (omega arith), lt-ltb (i - c) (2 * r) (omega arith)) (omega arith)
-
-    pub at_role : (w : ℕ) → w ≡ 128 → m ≤ i → 2 * n ≤ i - m → w + (i - m - 2 * n) ≡ node_at c r i
-    unfolding node_at
-    at_role w z h k = rw (le-ltb i c (omega arith), le-ltb (i - c) (2 * r) (omega arith)) (omega arith)
-
--- one row
-module _ (t : List ℕ) (x m : ℕ) where
-  pub pulled_none : IsTable t → (b : Bool) → b ≡ has t x m → not b ≡ true → Pulled t t x m
-  pulled_none l b e f =
-      record {
-        table = l;
-        stays = λ u v h. h;
-        comes = λ v h. absurd (false≢true (sym (not-true b f) ∙ e ∙ h));
-        came = λ u v h. at_once h;
-      }
-
-  pub pulled_row : (b : Bool) → b ≡ has t x m → not b ≡ false → (new : List ℕ) → Joined t new x m → Pulled t new x m
-  pulled_row b e f new j =
-      let there : Has t x m = sym e ∙ not-false b f in
-      record {
-        table = j.table;
-        stays = j.stays;
-        comes = λ v h k. j.comes (in_row t x m h) v k;
-        came = λ u v h. step u v there (j.came u v h);
-      }
-    where
-      step : (u v : ℕ) → Has t x m → CameJoined t x m u v → Through t m u v
-      step u v there (old-join h) = at_once h
-      step u v there (from_row z h) = by_way (subst (λ w. Has t w m) (sym z) there) h
-
--- all rows
+-- the rows that have m
 to_way : {t : List ℕ} {m u : ℕ} → Through t m u m → Has t u m
 to_way (at_once h) = h
 to_way (by_way h k) = h
@@ -70,60 +27,64 @@ from_way : {t : List ℕ} {m v : ℕ} → Through t m m v → Has t m v
 from_way (at_once h) = h
 from_way (by_way h k) = k
 
-module _ (c r : ℕ) where
-  pub passed_start : (t : List ℕ) (m : ℕ) → IsTable t → PassedTo 0 c r t t m
-  passed_start t m l = record { table = l; stays = λ u v h. h; comes = λ i v h. absurd (omega arith); came = λ u v h. at_once h }
+pub passed_start : (t : List ℕ) (m : ℕ) → Passed [] t t m
+passed_start t m = record { stays = λ u v h. h; comes = λ x v n. absurd (Memᴰ.not-nil n); came = λ u v h. at_once h }
 
-  pub passed_on : (k : ℕ) (old t new : List ℕ) (m x : ℕ) → PassedTo k c r old t m → x ≡ node_at c r k → Pulled t new x m → PassedTo (k + 1) c r old new m
-  passed_on k old t new m x p e q =
+module _ (xs old t : List ℕ) (m x : ℕ) (p : Passed xs old t m) (b : Bool) (e : b ≡ has t x m) where
+  pub passed_over : b ≡ false → Passed (xs ++ x ∷ []) old t m
+  passed_over f = record { stays = p.stays; comes = λ y v n h k. step y v (Memᴰ.append_cases xs n) h k; came = p.came }
+    where
+      step : (y v : ℕ) → Memᴰ y xs ⊎ Memᴰ y (x ∷ []) → Has old y m → Has old m v → Has t y v
+      step y v (inl n) h k = p.comes y v n h k
+      step y v (inr n) h k = absurd (false≢true (sym f ∙ e ∙ subst (λ z. Has t z m) (Memᴰ.eq_of_singleton n) (p.stays y m h)))
+
+  pub passed_on : b ≡ true → (new : List ℕ) → Joined t new x m → Passed (xs ++ x ∷ []) old new m
+  passed_on f new q =
       record {
-        table = q.table;
         stays = λ u v h. q.stays u v (p.stays u v h);
-        comes = λ i v h a b. step i v h a b (ℕ_discrete i k);
+        comes = λ y v n h k. step y v (Memᴰ.append_cases xs n) h k;
         came = λ u v h. back u v (q.came u v h);
       }
     where
-      step : (i v : ℕ) → i < k + 1 → Has old (node_at c r i) m → Has old m v → Dec (i ≡ k) → Has new (node_at c r i) v
-      step i v h a b (yes z) =
-          let w : x ≡ node_at c r i = e ∙ ap (node_at c r) (sym z) in
-          subst (λ y. Has new y v) w (q.comes v (p.stays x m (subst (λ y. Has old y m) (sym w) a)) (p.stays m v b))
-      step i v h a b (no d) = q.stays (node_at c r i) v (p.comes i v (omega arith) a b)
+      there : Has t x m
+      there = sym e ∙ f
 
-      back : (u v : ℕ) → Through t m u v → Through old m u v
-      back u v (at_once h) = p.came u v h
-      back u v (by_way h k) = by_way (to_way (p.came u m h)) (from_way (p.came m v k))
+      step : (y v : ℕ) → Memᴰ y xs ⊎ Memᴰ y (x ∷ []) → Has old y m → Has old m v → Has new y v
+      step y v (inl n) h k = q.stays y v (p.comes y v n h k)
+      step y v (inr n) h k = subst (λ z. Has new z v) (sym (Memᴰ.eq_of_singleton n)) (q.comes (in_row t x m there) v (p.stays m v k))
 
-  pub passed_end : (k n : ℕ) (old new : List ℕ) (m : ℕ) → PassedTo k c r old new m → n ≡ count_of c r → n ≤ k → Passed c r old new m
-  passed_end k n old new m p e h =
-      record { table = p.table; stays = p.stays; comes = λ i v b. p.comes i v (omega arith); came = p.came }
+      back : (u v : ℕ) → CameJoined t x m u v → Through old m u v
+      back u v (old-join h) = p.came u v h
+      back u v (from_row z h) = by_way (to_way (p.came u m (subst (λ w. Has t w m) (sym z) there))) (from_way (p.came m v h))
 
-  -- each node itself
-  pub reflected_start : (t : List ℕ) → IsTable t → ReflectedTo 0 c r t t
-  reflected_start t l = record { table = l; stays = λ u v h. h; comes = λ i h. absurd (omega arith); came = λ u v h. stood h }
+-- each node itself
+pub reflected_start : (t : List ℕ) → Reflected [] t t
+reflected_start t = record { stays = λ u v h. h; comes = λ x n. absurd (Memᴰ.not-nil n); came = λ u v h. stood h }
 
-  pub reflected_on : (k n : ℕ) (old t new : List ℕ) (x : ℕ) → ReflectedTo k c r old t → n ≡ count_of c r → k < n → x ≡ node_at c r k → Added t new x x → ReflectedTo (k + 1) c r old new
-  reflected_on k n old t new x p g b e q =
-      record {
-        table = q.table;
-        stays = λ u v h. q.stays u v (p.stays u v h);
-        comes = λ i h s. step i h s (ℕ_discrete i k);
-        came = λ u v h. back u v (in_row new u v h) (q.came u v h);
-      }
-    where
-      step : (i : ℕ) → i < k + 1 → node_at c r i < 192 → Dec (i ≡ k) → Has new (node_at c r i) (node_at c r i)
-      step i h s (yes z) =
-          let w : x ≡ node_at c r i = e ∙ ap (node_at c r) (sym z) in
-          subst (λ y. Has new y y) w (q.comes (omega arith) (omega arith))
-      step i h s (no d) = q.stays (node_at c r i) (node_at c r i) (p.comes i (omega arith) s)
+pub reflected_on : (xs old t new : List ℕ) (x : ℕ) → Reflected xs old t → Added t new x x → Reflected (xs ++ x ∷ []) old new
+reflected_on xs old t new x p q =
+    record {
+      stays = λ u v h. q.stays u v (p.stays u v h);
+      comes = λ y n s. step y (Memᴰ.append_cases xs n) s;
+      came = λ u v h. back u v (q.came u v h);
+    }
+  where
+    step : (y : ℕ) → Memᴰ y xs ⊎ Memᴰ y (x ∷ []) → y < 192 → Has new y y
+    step y (inl n) s = q.stays y y (p.comes y n s)
+    step y (inr n) s =
+        let e = Memᴰ.eq_of_singleton n in
+        subst (λ z. Has new z z) (sym e) (q.comes (subst (λ z. z < 192) e s) (subst (λ z. z < 192) e s))
 
-      back : (u v : ℕ) → u < 192 → CameAdded t x x u v → CameReflected c r old u v
-      back u v s (old_one h) = p.came u v h
-      back u v s (new_one f a) = itself (record { place = k; below = omega arith; stands = sym e ∙ sym f; small = s }) (f ∙ sym a)
+    more : {u v : ℕ} → CameReflected xs old u v → CameReflected (xs ++ x ∷ []) old u v
+    more (stood h) = stood h
+    more (itself n e) = itself (Memᴰ.append_left (x ∷ []) n) e
 
-  pub reflected_end : (k n : ℕ) (old new : List ℕ) → ReflectedTo k c r old new → n ≡ count_of c r → n ≤ k → Reflected c r old new
-  reflected_end k n old new p e h = record { table = p.table; stays = p.stays; comes = λ i b. p.comes i (omega arith); came = p.came }
+    back : (u v : ℕ) → CameAdded t x x u v → CameReflected (xs ++ x ∷ []) old u v
+    back u v (old_one h) = more (p.came u v h)
+    back u v (new_one f a) = itself (Memᴰ.append_right xs (Memᴰ.head f)) (f ∙ sym a)
 
-  -- all nodes
+-- all nodes
+module _ (c r : ℕ) where
   reach_from : {t : List ℕ} {u v : ℕ} → Within c r t → Reach c r t u v → Listed c r u
   reach_from w (here m) = m
   reach_from w (one {x} {y} h) = w.from x y h
@@ -134,16 +95,15 @@ module _ (c r : ℕ) where
   reach_to w (one {x} {y} h) = w.to x y h
   reach_to w (on p q) = reach_to w q
 
-  pub turned_start : (t : List ℕ) → IsTable t → TurnedTo 0 c r t t
-  turned_start t l = record { table = l; stays = λ u v h. h; sound = λ u v h. one h; joins = λ w i u v h. absurd (omega arith) }
+  pub turned_start : (t : List ℕ) → Turned c r [] t t
+  turned_start t = record { stays = λ u v h. h; sound = λ u v h. one h; joins = λ w x u v n. absurd (Memᴰ.not-nil n) }
 
-  pub turned_on : (k : ℕ) (old t new : List ℕ) (m : ℕ) → TurnedTo k c r old t → m ≡ node_at c r k → Passed c r t new m → TurnedTo (k + 1) c r old new
-  turned_on k old t new m p e q =
+  pub turned_on : (xs old t new : List ℕ) (m : ℕ) → Turned c r xs old t → Passed (nodes_of c r) t new m → Turned c r (xs ++ m ∷ []) old new
+  turned_on xs old t new m p q =
       record {
-        table = q.table;
         stays = λ u v h. q.stays u v (p.stays u v h);
         sound = λ u v h. back u v (q.came u v h);
-        joins = λ w i u v h. step w i u v h (ℕ_discrete i k);
+        joins = λ w x u v n h k. step w x u v (Memᴰ.append_cases xs n) h k;
       }
     where
       back : (u v : ℕ) → Through t m u v → Reach c r old u v
@@ -151,62 +111,44 @@ module _ (c r : ℕ) where
       back u v (by_way h j) = on (p.sound u m h) (p.sound m v j)
 
       way : Within c r old → (u v : ℕ) → Has t u m → Has t m v → Has new u v
-      way w u v h j =
-          let f = reach_from w (p.sound u m h) in
-          subst (λ y. Has new y v) f.stands (q.comes f.place v f.below (subst (λ y. Has t y m) (sym f.stands) h) j)
+      way w u v h j = q.comes u v (in_nodes c r u (reach_from w (p.sound u m h))) h j
 
-      meet : Within c r old → (i u v : ℕ) → i < k → Through t m u (node_at c r i) → Through t m (node_at c r i) v → Has new u v
-      meet w i u v b (at_once h) (at_once j) = q.stays u v (p.joins w i u v b h j)
-      meet w i u v b (at_once h) (by_way j l) = way w u v (p.joins w i u m b h j) l
-      meet w i u v b (by_way h j) (at_once l) = way w u v h (p.joins w i m v b j l)
-      meet w i u v b (by_way h j) (by_way l n) = way w u v h n
+      meet : Within c r old → (x u v : ℕ) → Memᴰ x xs → Through t m u x → Through t m x v → Has new u v
+      meet w x u v n (at_once h) (at_once j) = q.stays u v (p.joins w x u v n h j)
+      meet w x u v n (at_once h) (by_way j l) = way w u v (p.joins w x u m n h j) l
+      meet w x u v n (by_way h j) (at_once l) = way w u v h (p.joins w x m v n j l)
+      meet w x u v n (by_way h j) (by_way l k) = way w u v h k
 
-      step : Within c r old → (i u v : ℕ) → i < k + 1 → Dec (i ≡ k) → Has new u (node_at c r i) → Has new (node_at c r i) v → Has new u v
-      step w i u v b (yes z) h j =
-          let f : node_at c r i ≡ m = ap (node_at c r) z ∙ sym e in
-          way w u v (to_way (q.came u m (subst (λ y. Has new u y) f h))) (from_way (q.came m v (subst (λ y. Has new y v) f j)))
-      step w i u v b (no d) h j = meet w i u v (omega arith) (q.came u (node_at c r i) h) (q.came (node_at c r i) v j)
-
-  pub turned_end : (k n : ℕ) (old new : List ℕ) → TurnedTo k c r old new → n ≡ count_of c r → n ≤ k → Turned c r old new
-  turned_end k n old new p e h = record { table = p.table; stays = p.stays; sound = p.sound; joins = λ w i u v b. p.joins w i u v (omega arith) }
+      step : Within c r old → (x u v : ℕ) → Memᴰ x xs ⊎ Memᴰ x (m ∷ []) → Has new u x → Has new x v → Has new u v
+      step w x u v (inl n) h j = meet w x u v n (q.came u x h) (q.came x v j)
+      step w x u v (inr n) h j =
+          let e = Memᴰ.eq_of_singleton n in
+          way w u v (to_way (q.came u m (subst (Has new u) e h))) (from_way (q.came m v (subst (λ y. Has new y v) e j)))
 
   -- the closure
-  pub closed : (old mid new : List ℕ) → Reflected c r old mid → Turned c r mid new → Closes c r old new
-  closed old mid new f t =
-      record {
-        table = t.table;
-        sound = λ u v h. widen (t.sound u v h);
-        whole = λ w u v h. whole_of w h;
-      }
+  pub closed : (old mid new : List ℕ) → Reflected (nodes_of c r) old mid → Turned c r (nodes_of c r) mid new → Closes c r old new
+  closed old mid new f t = record { sound = λ u v h. widen (t.sound u v h); whole = λ w u v h. whole_of w h }
     where
-      first : (u v : ℕ) → CameReflected c r old u v → Reach c r old u v
-      first u v (stood h) = one h
-      first u v (itself l e) = subst (λ z. Reach c r old u z) e (here l)
+      -- an entry of the table after step 1
+      first : (u v : ℕ) → u < 192 → CameReflected (nodes_of c r) old u v → Reach c r old u v
+      first u v s (stood h) = one h
+      first u v s (itself n e) = subst (λ z. Reach c r old u z) e (here (of_nodes c r u n s))
 
       widen : {u v : ℕ} → Reach c r mid u v → Reach c r old u v
       widen (here m) = here m
-      widen (one {x} {y} h) = first x y (f.came x y h)
+      widen (one {x} {y} h) = first x y (in_row mid x y h) (f.came x y h)
       widen (on p q) = on (widen p) (widen q)
 
-      from_first : Within c r old → (u v : ℕ) → CameReflected c r old u v → Listed c r u
-      from_first w u v (stood h) = w.from u v h
-      from_first w u v (itself l e) = l
-
-      to_first : Within c r old → (u v : ℕ) → CameReflected c r old u v → Listed c r v
-      to_first w u v (stood h) = w.to u v h
-      to_first w u v (itself l e) = subst (Listed c r) e l
-
       still : Within c r old → Within c r mid
-      still w = record { from = λ u v h. from_first w u v (f.came u v h); to = λ u v h. to_first w u v (f.came u v h) }
+      still w =
+          record {
+            from = λ u v h. reach_from w (first u v (in_row mid u v h) (f.came u v h));
+            to = λ u v h. reach_to w (first u v (in_row mid u v h) (f.came u v h));
+          }
 
       whole_of : Within c r old → {u v : ℕ} → Reach c r old u v → Has new u v
-      whole_of w (here {x} l) =
-          t.stays x x (subst (λ y. Has mid y y) l.stands (f.comes l.place l.below (subst (λ y. y < 192) (sym l.stands) l.small)))
+      whole_of w (here {x} l) = t.stays x x (f.comes x (in_nodes c r x l) l.small)
       whole_of w (one {x} {y} h) = t.stays x y (f.stays x y h)
-      whole_of w (on {x} {y} {z} p q) =
-          let m = reach_to w p in
-          let a = subst (λ n. Has new x n) (sym m.stands) (whole_of w p) in
-          let b = subst (λ n. Has new n z) (sym m.stands) (whole_of w q) in
-          t.joins (still w) m.place x z m.below a b
+      whole_of w (on {x} {y} {z} p q) = t.joins (still w) y x z (in_nodes c r y (reach_to w p)) (whole_of w p) (whole_of w q)
 
-pub ruleset passes = (counted, at_concept, at_some, at_role, pulled_none, pulled_row, passed_start, passed_on, passed_end, reflected_start, reflected_on, reflected_end, turned_start, turned_on, turned_end, closed, rules)
+pub ruleset passes = (passed_start, passed_over, passed_on, reflected_start, reflected_on, turned_start, turned_on, closed, rules)

@@ -1,3 +1,4 @@
 pub mod Bits
 pub mod Listed
 pub mod Passes
+pub mod Rows

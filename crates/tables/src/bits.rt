@@ -1,73 +1,85 @@
 // Tables of bits: a row of three words for each node, and in it a bit for each node.
-ghost use Rattle.std.specs.Prelude.{◌≡◌};
-ghost use Rattle.tables.specs.Bits.{has, IsTable, Added, Joined};
+ghost use Rattle.std.specs.Prelude.{◌≡◌, replicate};
+ghost use Rattle.tables.specs.Bits.{has, Added, Joined};
+ghost use Rattle.tables.specs.Rows.{row_of};
 
+use crate::row::Row;
 use site::{BasicConcept, BasicRole};
+use std::marker::Model;
 
 // The nodes: 128 basic concepts and 64 basic roles.
-pub const NODES: usize = BasicConcept::COUNT as usize + BasicRole::COUNT as usize;
+const NODES: usize = BasicConcept::COUNT as usize + BasicRole::COUNT as usize;
 // The words of a row, and the bits of a word.
-pub const WORDS: usize = 3;
+pub(crate) const WORDS: usize = 3;
 
-pub const BITS: usize = 64;
+pub(crate) const BITS: usize = 64;
 
-// The words of a table.
-pub const SIZE: usize = NODES * WORDS;
-
-pub type Table = [u64; SIZE];
-
-// A table with nothing in it.
-pub const BLANK: Table = [0u64; SIZE];
-
-// Has the table y in row x?
-pub fn get(t: &Table, x: usize, y: usize) -> bool
-    ensures { result ≡ has t.now x y }
-{
-    if x >= NODES {
-        return false;
-    }
-    if y >= NODES {
-        return false;
-    }
-    let at = x * WORDS + y / BITS;
-    let word = t[at];
-    let bit = y % BITS;
-    (word >> bit) % 2 == 1
+// A table is seen as the list of its words.
+#[derive(Drop)]
+pub struct Table {
+    words: [u64; NODES * WORDS],
 }
 
-// Row x takes y in.
-pub fn add(t: &mut Table, x: usize, y: usize)
-    requires { IsTable t.old }
-    ensures { Added t.old t.new x y }
-{
-    if x >= NODES {
-        return;
-    }
-    if y >= NODES {
-        return;
-    }
-    let at = x * WORDS + y / BITS;
-    let bit = y % BITS;
-    t[at] = t[at] | (1u64 << bit);
+impl Model for Table {
+    ghost use Rattle.std.specs.Prelude.{ℕ, List};
+
+    ghost Value = { List ℕ };
+
+    ghost view = { λ t. t.words };
 }
 
-// Row x takes row y in.
-pub fn join(t: &mut Table, x: usize, y: usize)
-    requires { IsTable t.old }
-    ensures { Joined t.old t.new x y }
-{
-    if x >= NODES {
-        return;
+#[tactic(auto, using(crate::proofs::Words::words, crate::proofs::Rows::rows))]
+impl Table {
+    // A table with nothing in it.
+    pub fn blank() -> Self
+        ensures { result ≡ replicate 576 0 }
+    {
+        Table {
+            words: [0; NODES * WORDS],
+        }
     }
-    if y >= NODES {
-        return;
+
+    // Has the table y in row x?
+    pub fn get(&self, x: usize, y: usize) -> bool
+        ensures { result ≡ has self.now x y }
+    {
+        if x >= NODES || y >= NODES {
+            return false;
+        }
+        let word = self.words[x * WORDS + y / BITS];
+        (word >> (y % BITS)) % 2 == 1
     }
-    let a = x * WORDS;
-    let b = y * WORDS;
-    let p = t[a] | t[b];
-    let q = t[a + 1] | t[b + 1];
-    let r = t[a + 2] | t[b + 2];
-    t[a] = p;
-    t[a + 1] = q;
-    t[a + 2] = r;
+
+    // Row x by itself.
+    pub fn row(&self, x: usize) -> Row
+        ensures { result ≡ row_of self.now x }
+    {
+        if x >= NODES {
+            return Row { words: [0; WORDS] };
+        }
+        let at = x * WORDS;
+        Row {
+            words: [self.words[at], self.words[at + 1], self.words[at + 2]],
+        }
+    }
+
+    // Row x takes y in.
+    pub fn add(&mut self, x: usize, y: usize)
+        ensures { Added self.old self.new x y }
+    {
+        if x < NODES && y < NODES {
+            self.words[x * WORDS + y / BITS] |= 1 << (y % BITS);
+        }
+    }
+
+    // Row x takes row y in.
+    pub fn join(&mut self, x: usize, y: usize)
+        ensures { Joined self.old self.new x y }
+    {
+        if x < NODES && y < NODES {
+            for w in 0..WORDS {
+                self.words[x * WORDS + w] |= self.words[y * WORDS + w];
+            }
+        }
+    }
 }

@@ -1,67 +1,47 @@
 // Closing a table: the nodes are gone through one after the other, and each row that has a node takes that node's row in.
-ghost use Rattle.tables.specs.Bits.{IsTable};
-ghost use Rattle.tables.specs.Passes.{Pulled, Passed, Reflected, Turned, Closes};
+ghost use Rattle.tables.specs.Listed.{nodes_of};
+ghost use Rattle.tables.specs.Passes.{Passed, Reflected, Turned, Closes};
 
-use crate::bits::{Table, add, get, join};
-use crate::listed::{count, node_at};
+use crate::bits::Table;
+use crate::listed::Nodes;
 use site::Declared;
 
-// Row x takes row m in, if it has m.
-fn pull(t: &mut Table, x: usize, m: usize)
-    requires { IsTable t.old }
-    ensures { Pulled t.old t.new x m }
-{
-    if !get(t, x, m) {
-        return;
+#[tactic(auto, using(crate::proofs::Passes::passes))]
+impl Table {
+    // Every row that has m takes row m in.
+    fn pass(&mut self, d: Declared, m: usize)
+        ensures { Passed (nodes_of d.concepts d.roles) self.old self.new m }
+    {
+        for x in Nodes::of(d) {
+            if self.get(x, m) {
+                self.join(x, m);
+            }
+        }
     }
-    join(t, x, m);
-}
 
-// Every row that has m takes row m in.
-fn pass(t: &mut Table, d: Declared, m: usize)
-    requires { IsTable t.old }
-    ensures { Passed d.concepts d.roles t.old t.new m }
-{
-    let n = count(d);
-    let mut i = 0;
-    while i < n {
-        pull(t, node_at(d, i), m);
-        i += 1;
+    // Every node has itself in its row.
+    fn reflect(&mut self, d: Declared)
+        ensures { Reflected (nodes_of d.concepts d.roles) self.old self.new }
+    {
+        for x in Nodes::of(d) {
+            self.add(x, x);
+        }
     }
-}
 
-// Every node has itself in its row.
-fn reflect(t: &mut Table, d: Declared)
-    requires { IsTable t.old }
-    ensures { Reflected d.concepts d.roles t.old t.new }
-{
-    let n = count(d);
-    let mut i = 0;
-    while i < n {
-        let x = node_at(d, i);
-        add(t, x, x);
-        i += 1;
+    // Every node is gone through.
+    fn turn(&mut self, d: Declared)
+        ensures { Turned d.concepts d.roles (nodes_of d.concepts d.roles) self.old self.new }
+    {
+        for m in Nodes::of(d) {
+            self.pass(d, m);
+        }
     }
-}
 
-// Every node is gone through.
-fn turn(t: &mut Table, d: Declared)
-    requires { IsTable t.old }
-    ensures { Turned d.concepts d.roles t.old t.new }
-{
-    let n = count(d);
-    let mut k = 0;
-    while k < n {
-        pass(t, d, node_at(d, k));
-        k += 1;
+    // The table comes to hold the smallest reflexive and transitive relation with what it holds.
+    pub fn close(&mut self, d: Declared)
+        ensures { Closes d.concepts d.roles self.old self.new }
+    {
+        self.reflect(d);
+        self.turn(d);
     }
-}
-
-// The table comes to hold the smallest reflexive and transitive relation with what it holds.
-pub fn close(t: &mut Table, d: Declared)
-    requires { IsTable t.old }
-    ensures { Closes d.concepts d.roles t.old t.new }
-{
-    reflect(t, d);
-    turn(t, d);
 }

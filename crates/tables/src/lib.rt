@@ -4,7 +4,8 @@
 mod bits;
 mod closure;
 mod listed;
+mod row;
 
-pub use bits::{BITS, BLANK, NODES, Table, WORDS, add, get, join};
-pub use closure::close;
-pub use listed::{count, node_at};
+pub use bits::Table;
+pub use listed::Nodes;
+pub use row::Row;

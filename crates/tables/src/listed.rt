@@ -1,29 +1,61 @@
-// The declared nodes by their numbers, in a row without gaps.
-ghost use Rattle.std.specs.Prelude.{◌≡◌, ◌<◌};
-ghost use Rattle.tables.specs.Listed.{count_of, node_at};
+// The declared nodes by their numbers: concepts, then "some partner", then roles.
+ghost use Rattle.std.specs.Prelude.{◌≡◌};
+ghost use Rattle.std.specs.Iterator.{YieldsFirst, item_count};
+ghost use Rattle.tables.specs.Listed.{nodes_of};
 
-use site::{BasicConcept, BasicRole, Declared, wide};
+use site::{BasicConcept, BasicRole, Declared};
+use std::marker::Model;
+use std::ops::Range;
 
-// How many declared nodes there are.
-pub fn count(d: Declared) -> usize
-    ensures { result ≡ count_of d.concepts d.roles }
-{
-    wide(d.concepts) + 4 * wide(d.roles)
+// Those that are left, and seen as the list of them.
+#[derive(Drop)]
+pub struct Nodes {
+    concepts: Range<usize>,
+    partners: Range<usize>,
+    roles: Range<usize>,
 }
 
-// The number of the one at a place.
-pub fn node_at(d: Declared, i: usize) -> usize
-    requires { i < count_of d.concepts d.roles }
-    ensures { result ≡ node_at d.concepts d.roles i }
-{
-    let concepts = wide(d.concepts);
-    if i < concepts {
-        return i;
+impl Model for Nodes {
+    ghost use Rattle.std.specs.Prelude.{ℕ, ◌++◌, List};
+    ghost use Rattle.tables.specs.Listed.{numbers};
+
+    ghost Value = { List ℕ };
+
+    ghost view = { λ n. numbers n.concepts.start n.concepts.end ++ (numbers n.partners.start n.partners.end ++ numbers n.roles.start n.roles.end) };
+}
+
+impl Iterator for Nodes {
+    type Item = usize;
+
+    ghost next_gives = { YieldsFirst (λ rest. rest) };
+
+    ghost remaining = { item_count (λ rest. rest) };
+
+    #[tactic(auto, using(crate::proofs::Numbers::numbers_first, crate::proofs::Numbers::numbers_none))]
+    fn next(&mut self) -> Option<usize> {
+        if let Some(x) = self.concepts.next() {
+            return Some(x);
+        }
+        if let Some(x) = self.partners.next() {
+            return Some(x);
+        }
+        self.roles.next()
     }
-    let rest = i - concepts;
-    let roles = 2 * wide(d.roles);
-    if rest < roles {
-        return wide(BasicRole::COUNT) + rest;
+}
+
+impl Nodes {
+    // All of them.
+    #[tactic(auto, unfolding(crate::specs::Listed::nodes_of))]
+    pub fn of(d: Declared) -> Self
+        ensures { result ≡ nodes_of d.concepts d.roles }
+    {
+        let partner = BasicRole::COUNT as usize;
+        let role = BasicConcept::COUNT as usize;
+        let roles = 2 * d.roles as usize;
+        Nodes {
+            concepts: 0..d.concepts as usize,
+            partners: partner..partner + roles,
+            roles: role..role + roles,
+        }
     }
-    wide(BasicConcept::COUNT) + (rest - roles)
 }

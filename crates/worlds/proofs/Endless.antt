@@ -4,7 +4,7 @@ use Prim.Native.Nat.{ℕ, zero, suc}
 use mathlib.Core.Path.{◌≡◌, refl, sym, ap, subst⁻¹}
 use mathlib.Core.List.{List, [], ◌∷◌, Memᴰ}
 use native.Mathlib.Omega.{arith}
-use Rattle.number.specs.Answer.Answer.{gives}
+use Rattle.std.specs.Prelude.{Ok}
 use Rattle.number.specs.Number.{form_of, second, third, number_at}
 use Rattle.site.specs.declared.fact.Fact.{Fact}
 use Rattle.site.specs.Kinds.{Rule, Site}
@@ -49,7 +49,7 @@ root_bundle = 1 ∷ 0 ∷ 0 ∷ []
 abbrev pub head : Head
 head = record { concepts = 1; roles = 1; rules = 4; start = 3 }
 
-pub rules_accepted : check_rules endless_file ≡ gives head
+pub rules_accepted : check_rules endless_file ≡ Ok head
 unfolding form_of second third number_at role_of concept_of concept_declared any tested_at at_most items_from end_at head_of code_declared rule_at next_rule rules_in next_unbroken after_rules check_rules
 rules_accepted = refl
 
@@ -57,7 +57,7 @@ pub rules_read : site_of endless_file head ≡ endless
 unfolding form_of second third number_at role_of concept_of concept_declared tested_at at_most code_declared rule_at rules_in site_of
 rules_read = refl
 
-pub bundle_accepted : read_bundle head root_bundle ≡ gives root
+pub bundle_accepted : read_bundle head root_bundle ≡ Ok root
 unfolding form_of second third number_at predicate_declared tested_at at_most items_from end_at fact_at next_fact facts_in check_bundle read_bundle
 bundle_accepted = refl
 

@@ -7,7 +7,7 @@ use mathlib.Core.List.{List, [], ◌∷◌, Memᴰ}
 use native.Mathlib.Bridge.{le_prop}
 use native.Mathlib.Omega.{arith}
 use native.Mathlib.Decide.{ℕ_discrete as dec_eq}
-use Rattle.number.specs.Answer.Answer.{gives}
+use Rattle.std.specs.Prelude.{Ok}
 use Rattle.number.specs.Number.{form_of, second, third, number_at}
 use Rattle.site.specs.declared.fact.Fact.{Fact}
 use Rattle.site.specs.Kinds.{Rule, Site}
@@ -63,7 +63,7 @@ reported = fact 0 7 0 ∷ fact 1 7 0 ∷ fact 1 9 0 ∷ fact 64 9 7 ∷ fact 64 
 abbrev pub camera : List Fact
 camera = fact 1 9 0 ∷ []
 
-pub rules_accepted : check_rules R ≡ gives head
+pub rules_accepted : check_rules R ≡ Ok head
 unfolding form_of second third number_at role_of concept_of concept_declared any tested_at at_most items_from end_at head_of code_declared rule_at next_rule rules_in next_unbroken after_rules check_rules
 rules_accepted = refl
 
@@ -71,7 +71,7 @@ pub rules_read : site_of R head ≡ worked
 unfolding form_of second third number_at role_of concept_of concept_declared tested_at at_most code_declared rule_at rules_in site_of
 rules_read = refl
 
-pub bundle_accepted : read_bundle head F ≡ gives reported
+pub bundle_accepted : read_bundle head F ≡ Ok reported
 unfolding form_of second third number_at predicate_declared tested_at at_most items_from end_at fact_at next_fact facts_in check_bundle read_bundle
 bundle_accepted = refl
 
@@ -133,7 +133,7 @@ devices_are = (
 )
 
 -- rule file R and bundle F are accepted, and the rules and the kept facts have a finite world
-pub finite_world : (check_rules R ≡ gives head) × (read_bundle head F ≡ gives reported) × HasFinite (site_of R head) (kept itself (follows_of (site_of R head)) reported)
+pub finite_world : (check_rules R ≡ Ok head) × (read_bundle head F ≡ Ok reported) × HasFinite (site_of R head) (kept itself (follows_of (site_of R head)) reported)
 finite_world = (
   rules_accepted,
   bundle_accepted,

@@ -12,7 +12,8 @@ use Rattle.site.specs.Kinds.Node.{concept, role}
 use Rattle.site.specs.Codes.{concept_of, role_of, predicate_declared}
 use Rattle.rule.specs.declared.head.Head.{Head}
 use Rattle.rules.specs.Lawful.{Lawful}
-use Rattle.bundle.specs.Bundle.{Last}
+use Rattle.bundle.specs.Bundle.{}
+use Rattle.std.specs.Prelude.{Option}
 use Rattle.bundle.specs.Lawful.{LawfulFact, LawfulFrom, LawfulFacts}
 use Rattle.bundle.specs.Lawful.LawfulFrom.{done, next}
 use Rattle.steps.specs.Tables.{Follows, follows_of}
@@ -57,7 +58,7 @@ fact_fit h s c r {f} l =
       near = record { subject_within = l.subject_within; object_within = l.object_within };
     }
 
-pub facts_fit : (h : Head) (s : Site) → h.concepts ≡ s.concepts → h.roles ≡ s.roles → {last : Last} {facts : List Fact}
+pub facts_fit : (h : Head) (s : Site) → h.concepts ≡ s.concepts → h.roles ≡ s.roles → {last : Option Fact} {facts : List Fact}
     → LawfulFrom h last facts → AllFit s facts
 facts_fit h s c r done f m = elim m [ ]
 facts_fit h s c r (next l a ls) f (Memᴰ.head e) = subst (λ (g : Fact). Fit s g) (sym e) (fact_fit h s c r l)

@@ -1,7 +1,7 @@
 -- Demand 3, whole: worlds decide. The marks, the kept facts and the answers are the very definitions that the contracts cite.
 use Rattle.std.specs.Prelude.{ℕ, ◌≤◌, ◌<◌, ◌≡◌, true, ◌↔◌, length}
 use mathlib.Core.List.{List, [], ◌∷◌, Memᴰ}
-use Rattle.number.specs.Answer.Answer.{gives}
+use Rattle.std.specs.Prelude.{Ok}
 use Rattle.site.specs.declared.fact.Fact.{Fact}
 use Rattle.site.specs.Kinds.{Site}
 use Rattle.site.specs.Kinds.Node.{concept, role}
@@ -39,6 +39,6 @@ pub record SiteDecided (h : Head) (s : Site) (facts : List Fact) : Type 1 where
 abbrev pub Demand3 : Type 1
 Demand3 =
     (rules bundle : List ℕ) (h : Head) (facts : List Fact)
-    → check_rules rules ≡ gives h
-    → read_bundle h bundle ≡ gives facts
+    → check_rules rules ≡ Ok h
+    → read_bundle h bundle ≡ Ok facts
     → SiteDecided h (site_of rules h) facts

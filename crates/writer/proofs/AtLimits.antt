@@ -8,17 +8,18 @@ use mathlib.Core.List.{List, [], ◌∷◌, ◌++◌, map}
 use lib.ListN.{length, replicate, length-replicate}
 use native.Mathlib.Omega.{arith}
 use borrow.Author.Tests.{lt-ltb, le-leb}
-use Rattle.number.specs.Answer.{Answer, refusal, of_item}
-use Rattle.number.specs.Answer.Answer.{gives, refuses}
+use Rattle.std.specs.Prelude.{Option, None, Some, Ok, Err}
+use Rattle.number.specs.Answer.{Answer, refusal, of_item, fault_of}
 use Rattle.number.specs.Number.{third, second, form_of, number_at, bytes_of}
+use Rattle.number.specs.declared.refusal.Fault.TheVariants.{Count, Room}
+use Rattle.number.specs.declared.refusal.Side.TheVariants.{Bundle, Call}
 use Rattle.site.specs.declared.fact.Fact.{Fact}
 use Rattle.site.specs.Codes.{predicate_declared}
 use Rattle.site.specs.Items.{tested_at, at_most, items_from, end_at}
 use Rattle.site.specs.Limits.{most_thing}
 use Rattle.site.specs.Lists.{each}
 use Rattle.rule.specs.declared.head.Head.{Head}
-use Rattle.bundle.specs.Bundle.{Last, ascends, fact_at, next_fact, facts_in, check_bundle, read_bundle, fact_bytes, bundle_of}
-use Rattle.bundle.specs.Bundle.Last.{none, after}
+use Rattle.bundle.specs.Bundle.{ascends, fact_at, next_fact, facts_in, check_bundle, read_bundle, fact_bytes, bundle_of}
 use Rattle.bundle.specs.Lawful.{LawfulFrom}
 use Rattle.bundle.specs.Lawful.LawfulFrom.{done, next}
 use Rattle.bundle.proofs.Cases.{fact}
@@ -39,23 +40,23 @@ unfolding row
 row_length k zero = refl
 row_length k (suc n) = ap suc (row_length (k + 1) n)
 
-row_ascends : (k : ℕ) → ascends (after (fact 0 k 0)) (fact 0 (k + 1) 0) ≡ true
+row_ascends : (k : ℕ) → ascends (Some (fact 0 k 0)) (fact 0 (k + 1) 0) ≡ true
 row_ascends k = rw (lt-ltb k (k + 1) (omega arith))
 
-row_lawful : (n k : ℕ) (last : Last) → k + n ≤ 65536 → ascends last (fact 0 k 0) ≡ true → LawfulFrom (with 1 0) last (row k n)
+row_lawful : (n k : ℕ) (last : Option Fact) → k + n ≤ 65536 → ascends last (fact 0 k 0) ≡ true → LawfulFrom (with 1 0) last (row k n)
 unfolding row predicate_declared
 row_lawful zero k last low up = done
 row_lawful (suc n) k last low up =
     next {f = fact 0 k 0} (record { known = refl; subject_within = omega arith; object_within = omega arith; no_object = λ _. refl }) up
-    (row_lawful n (k + 1) (after (fact 0 k 0)) (omega arith) (row_ascends k))
+    (row_lawful n (k + 1) (Some (fact 0 k 0)) (omega arith) (row_ascends k))
 
 -- 4,096 facts, and 4,097
-pub facts_4096 : read_bundle (with 1 0) (bundle_of (row 0 4096)) ≡ gives (row 0 4096)
+pub facts_4096 : read_bundle (with 1 0) (bundle_of (row 0 4096)) ≡ Ok (row 0 4096)
 facts_4096 =
     let many = row_length 0 4096 in
-    written_read (with 1 0) (omega arith) (row 0 4096) (record { few = omega arith; lawful = row_lawful 4096 0 none (omega arith) refl })
+    written_read (with 1 0) (omega arith) (row 0 4096) (record { few = omega arith; lawful = row_lawful 4096 0 None (omega arith) refl })
 
-pub facts_4097 : read_bundle (with 1 0) (bundle_of (row 0 4097)) ≡ refuses (refusal 4 1 0)
+pub facts_4097 : read_bundle (with 1 0) (bundle_of (row 0 4097)) ≡ Err (refusal Count Bundle 0)
 unfolding bundle_of bytes_of number_at form_of second tested_at at_most check_bundle read_bundle
 facts_4097 = rw (row_length 0 4097)
 
@@ -66,15 +67,15 @@ pub record Case : Type 0 where
   pub expected : Answer (List Fact)
 
 abbrev pub is : Head → List ℕ → List Fact → Case
-is head bytes facts = record { head = head; bytes = bytes; expected = gives facts }
+is head bytes facts = record { head = head; bytes = bytes; expected = Ok facts }
 
 -- refused in the header or after the last fact
 abbrev pub refused : Head → List ℕ → ℕ → ℕ → Case
-refused head bytes number place = record { head = head; bytes = bytes; expected = refuses (refusal number 1 place) }
+refused head bytes number place = record { head = head; bytes = bytes; expected = Err (refusal (fault_of number) Bundle place) }
 
 -- refused in the first fact
 abbrev pub refused_first : Head → List ℕ → ℕ → ℕ → Case
-refused_first head bytes number place = record { head = head; bytes = bytes; expected = refuses (of_item 0 (refusal number 1 place)) }
+refused_first head bytes number place = record { head = head; bytes = bytes; expected = Err (of_item 0 (refusal (fault_of number) Bundle place)) }
 
 abbrev pub many : List Case
 many = is (with 1 0) (bundle_of (row 0 4096)) (row 0 4096) ∷ refused (with 1 0) (bundle_of (row 0 4097)) 4 0 ∷ []
@@ -117,27 +118,27 @@ pub bundles_at_limits : map (λ c. read_bundle c.head c.bytes) (many ++ few) ≡
 bundles_at_limits = λ i. facts_4096 i ∷ facts_4097 i ∷ small i
 
 -- ---- records: 4,096 are judged one by one, and only room is left to judge
-row_faultless : (k : ℕ) (last : Last) → k ≤ most_thing → ascends last (fact 0 k 0) ≡ true → record_fault (with 1 0) last (fact 0 k 0) ≡ 0
+row_faultless : (k : ℕ) (last : Option Fact) → k ≤ most_thing → ascends last (fact 0 k 0) ≡ true → record_fault (with 1 0) last (fact 0 k 0) ≡ None
 unfolding record_fault predicate_declared
 row_faultless k last low up = rw (le-leb k most_thing low, up)
 
-row_judged : (n k : ℕ) (last : Last) → k + n ≤ 65536 → ascends last (fact 0 k 0) ≡ true → records_from (with 1 0) last k (row k n) ≡ gives (k + n)
+row_judged : (n k : ℕ) (last : Option Fact) → k + n ≤ 65536 → ascends last (fact 0 k 0) ≡ true → records_from (with 1 0) last k (row k n) ≡ Ok (k + n)
 unfolding row records_from
-row_judged zero k last low up = ap gives (omega arith)
+row_judged zero k last low up = ap Ok (omega arith)
 row_judged (suc n) k last low up =
-    rw (row_faultless k last (omega arith) up) (row_judged n (k + 1) (after (fact 0 k 0)) (omega arith) (row_ascends k) ∙ ap gives (omega arith))
+    rw (row_faultless k last (omega arith) up) (row_judged n (k + 1) (Some (fact 0 k 0)) (omega arith) (row_ascends k) ∙ ap Ok (omega arith))
 
 pub records_4096 : (room : ℕ) → plan_records (with 1 0) room (row 0 4096) ≡ room_for room (bundle_of (row 0 4096))
 unfolding plan_records
-records_4096 room = rw (row_length 0 4096, row_judged 4096 0 none (omega arith) refl)
+records_4096 room = rw (row_length 0 4096, row_judged 4096 0 None (omega arith) refl)
 
 -- "count (4), then each record": whatever the 4,097 records are, under whatever rules and with whatever room
-pub records_4097 : (h : Head) (room : ℕ) (records : List Fact) → length records ≡ 4097 → plan_records h room records ≡ refuses (refusal 4 2 0)
+pub records_4097 : (h : Head) (room : ℕ) (records : List Fact) → length records ≡ 4097 → plan_records h room records ≡ Err (refusal Count Call 0)
 unfolding plan_records
 records_4097 h room records e = rw e
 
 -- a row of bad ones: an undeclared concept's
-pub bad_4097 : (room : ℕ) → plan_records (with 0 0) room (replicate 4097 (fact 0 0 0)) ≡ refuses (refusal 4 2 0)
+pub bad_4097 : (room : ℕ) → plan_records (with 0 0) room (replicate 4097 (fact 0 0 0)) ≡ Err (refusal Count Call 0)
 bad_4097 room = records_4097 (with 0 0) room (replicate 4097 (fact 0 0 0)) (length-replicate 4097 (fact 0 0 0))
 
 -- ---- "each record's predicate (5), object of a concept (5), subject (3), object (3), order (8)", the second now 12, at the record's number; then room (9)
@@ -147,13 +148,13 @@ pub record Row : Type 0 where
   pub expected : Answer (List ℕ)
 
 abbrev pub written : ℕ → List Fact → List ℕ → Row
-written room records bytes = record { room = room; records = records; expected = gives bytes }
+written room records bytes = record { room = room; records = records; expected = Ok bytes }
 
 abbrev pub faulty : List Fact → ℕ → ℕ → Row
-faulty records number place = record { room = 0; records = records; expected = refuses (refusal number 2 place) }
+faulty records number place = record { room = 0; records = records; expected = Err (refusal (fault_of number) Call place) }
 
 abbrev pub short : ℕ → List Fact → Row
-short room records = record { room = room; records = records; expected = refuses (refusal 9 2 0) }
+short room records = record { room = room; records = records; expected = Err (refusal Room Call 0) }
 
 -- under one concept and one role; all of a record's later faults come with the earlier one
 abbrev pub rows : List Row

@@ -1,7 +1,7 @@
 pub mod AtLimits
 pub mod FactBytes
-pub mod Faults
+pub mod Judging
+pub mod Laying
+pub mod Left
 pub mod OneWriting
-pub mod Pushing
-pub mod Storing
 pub mod TwoPasses

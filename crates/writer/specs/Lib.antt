@@ -1,2 +1,2 @@
-pub mod Pushed
 pub mod Records
+pub mod Stored

@@ -1,8 +1,11 @@
-// Writing a bundle from facts that are given one after the other: the bytes of a fact, and the two passes that judge and store.
+// Writing a bundle from facts: the bytes of a fact, and a row of records judged and written as a bundle.
 #![tactic(auto)]
 
+mod judge;
+mod record;
 mod store;
-mod writing;
+mod write;
 
+pub use record::HasFact;
 pub use store::{fact_size, put_number, write_fact};
-pub use writing::{BundleWrote, Writing, begin, push};
+pub use write::write_facts;

@@ -1,10 +1,12 @@
 // The bytes of one fact: how many they are, and storing them where there is room.
+#![tactic(auto, using(crate::proofs::FactBytes::storing))]
+
 ghost use Rattle.std.specs.Prelude.{◌≡◌, length};
 ghost use Rattle.number.specs.Told.{Stores, Stored};
 ghost use Rattle.bundle.specs.Bundle.{fact_bytes};
-ghost use Rattle.writer.specs.Pushed.{StoresFact, StoredFact};
+ghost use Rattle.writer.specs.Stored.{StoresFact, StoredFact};
 
-use number::{Num, Wrote, size_of_number, write_number};
+use number::{THREE_BYTES, size_of_number, write_number};
 use site::Fact;
 
 // How many bytes a fact has.
@@ -16,23 +18,18 @@ pub fn fact_size(fact: Fact) -> usize
     if fact.of_concept() {
         return predicate + subject;
     }
-    let object = size_of_number(fact.object);
-    predicate + (subject + object)
+    predicate + subject + size_of_number(fact.object)
 }
 
-// A number's bytes, stored where there is room for them.
+// A number's bytes, stored where there is room for them: the place after them.
 pub fn put_number(out: &mut [u8], at: usize, value: u32) -> usize
     requires { Stores out.old at value }
     ensures { Stored out.old at value result out.new }
 {
-    let wrote = write_number(out, at, value, Num::FORMS);
-    let Wrote::Next(next) = wrote else {
-        return at;
-    };
-    next
+    write_number(out, at, value, THREE_BYTES).unwrap_or(at)
 }
 
-// A fact's bytes, stored where there is room for them.
+// A fact's bytes, stored where there is room for them: the place after them.
 pub fn write_fact(out: &mut [u8], at: usize, fact: Fact) -> usize
     requires { StoresFact out.old at fact }
     ensures { StoredFact out.old at fact result out.new }

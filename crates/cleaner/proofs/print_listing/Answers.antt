@@ -2,7 +2,6 @@
 use Rattle.std.proofs.Common.{arith}
 use native.Mathlib.Nat.{zero-add}
 use Rattle.std.proofs.KnownBytes.{Appends-nil, Appends-trans}
-use Rattle.operations.specs.Promises.{counted_told}
 use Rattle.listing.specs.Listing.{lines_from}
 use Rattle.cleaner.proofs.OfWholeListing.{lines_on}
 use Rattle.cleaner.proofs.print_listing.Goals as goal
@@ -15,6 +14,6 @@ pub loop-number-preserved : goal.loop-number-preserved
 loop-number-preserved g c = record {
   within = omega arith;
   written =
-      rw (lines_on (counted_told c.args.counted) c.args.marks.now c.args.partners.now 0 c.loop-number.number, zero-add c.loop-number.number)
+      rw (lines_on c.args.counted c.args.marks.now c.args.partners.now 0 c.loop-number.number, zero-add c.loop-number.number)
       (Appends-trans _ _ _ _ _ c.loop-number.invariant.written c.in_ok-print_line.ensures);
 }

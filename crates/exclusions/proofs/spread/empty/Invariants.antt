@@ -1,10 +1,7 @@
--- The loop's invariant: each node that leads on to one of the places passed that excludes itself excludes itself.
-use Prim.Native.Nat.{◌-◌}
-use Rattle.exclusions.specs.Lowering.{EmptiedTo}
+-- The loop's invariant: each node that leads on to one of the nodes passed that excludes itself excludes itself.
+use Rattle.tables.specs.Listed.{nodes_of}
+use Rattle.exclusions.specs.Lowering.{EmptiedBy}
 use Rattle.exclusions.proofs.spread.empty.Given as goal
 
-abbrev pub invariant-loop-i : goal.invariant-loop-i
-invariant-loop-i l = EmptiedTo l.i l.d.concepts l.d.roles l.on l.initial.t l.t
-
-abbrev pub decreases-loop-i : goal.decreases-loop-i
-decreases-loop-i l = l.n - l.i
+abbrev pub invariant-loop-w : goal.invariant-loop-w
+invariant-loop-w l = EmptiedBy l.on (nodes_of l.d.concepts l.d.roles) l.yielded l.initial.t l.t

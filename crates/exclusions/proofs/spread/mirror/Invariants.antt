@@ -1,10 +1,6 @@
--- The loop's invariant: what the rows of the places passed have, has them.
-use Prim.Native.Nat.{◌-◌}
-use Rattle.exclusions.specs.Lowering.{MirroredTo}
+-- The loop's invariant: what the nodes passed have, has them.
+use Rattle.exclusions.specs.Lowering.{Mirrored}
 use Rattle.exclusions.proofs.spread.mirror.Given as goal
 
-abbrev pub invariant-loop-i : goal.invariant-loop-i
-invariant-loop-i l = MirroredTo l.i l.d.concepts l.d.roles l.initial.t l.t
-
-abbrev pub decreases-loop-i : goal.decreases-loop-i
-decreases-loop-i l = l.n - l.i
+abbrev pub invariant-loop-y : goal.invariant-loop-y
+invariant-loop-y l = Mirrored l.yielded l.initial.t l.t

@@ -1,10 +1,6 @@
--- The loop's invariant: the rows of the places passed have taken in all that they lead to.
-use Prim.Native.Nat.{◌-◌}
-use Rattle.exclusions.specs.Lowering.{WidenedTo}
+-- The loop's invariant: the rows of the nodes passed have taken in all that they lead to.
+use Rattle.exclusions.specs.Lowering.{Widened}
 use Rattle.exclusions.proofs.spread.widen.Given as goal
 
-abbrev pub invariant-loop-i : goal.invariant-loop-i
-invariant-loop-i l = WidenedTo l.i l.fn.d.concepts l.fn.d.roles l.by l.initial.t l.t
-
-abbrev pub decreases-loop-i : goal.decreases-loop-i
-decreases-loop-i l = l.n - l.i
+abbrev pub invariant-loop-x : goal.invariant-loop-x
+invariant-loop-x l = Widened l.by l.yielded l.initial.t l.t

@@ -6,8 +6,5 @@ use Rattle.listing.proofs.put.+put_decimal.Goals as goal
 pub returns-then-n-lt10 : goal.returns-then-n-lt10
 returns-then-n-lt10 t c = number_one _ _ _ (omega arith)
 
-pub bounds-out-p : goal.bounds-out-p
-bounds-out-p t c = search putting
-
 pub returns : goal.returns
 returns t c = search putting

@@ -1,28 +1,41 @@
--- What is handed out fits the row, so each slot is within it; a row filled to the end is what was promised.
-use Rattle.std.proofs.Common.{◌≡◌, ◌-◌, ◌+◌, ◌<◌, suc, length, arith, rules}
-use Rattle.records.proofs.Filling.{hand_fits, hands, one_slot, no_slot}
+use Rattle.std.proofs.Common.{inl, sym, ap, ◌∙◌, arith}
+use Rattle.std.proofs.lemmas.Result.{err_from_is_err_and}
+use Rattle.bundle.specs.Told.{facts_left}
+use Rattle.bundle.specs.declared.facts.FactsOf.{FactsOf}
+use Rattle.rows.proofs.Filling.{hands_nothing, fill_starts, fill_small, fill_ends, fill_within, fill_on}
 use Rattle.rows.proofs.handing.hand_records.Goals as goal
 
-pub bounds-row-i : goal.bounds-row-i
-bounds-row-i c = omega (arith, hand_fits c.args.rules.now c.args.bundle.now c.args.row.now c.decide-hand.result c.decide-hand.ensures)
+pub returns-in_err-facts : goal.returns-in_err-facts
+returns-in_err-facts c =
+    let p = err_from_is_err_and c.from_residual.result c.from_residual.ensures.1 in
+    rw (p.1, p.2) (hands_nothing _ _ _ _ (sym c.decide.ensures ∙ c.in_err-facts.was))
+
+pub loop-i-init : goal.loop-i-init
+loop-i-init c =
+    let given = sym c.decide.ensures ∙ c.in_ok-facts.was in
+    let left = ap (λ (w : FactsOf). facts_left w) c.enumerate-i-items.ensures.source ∙ c.new.ensures in
+    let from = c.enumerate-i-items.result in
+    let start = fill_starts c.args.rules.now c.args.bundle.now c.args.row.now _ given from.count (facts_left from.iter) c.enumerate-i-items.ensures.count left in
+    let small = fill_small _ _ _ _ given _ _ _ start in
+    rw c.into_iter-i-iterator.ensures.into_iter_gives ((tt, tt, inl (omega (arith, small))), tt, start)
 
 pub offset_bounds-row-i : goal.offset_bounds-row-i
 offset_bounds-row-i c =
-    let fits = hand_fits c.args.rules.now c.args.bundle.now c.args.row.now c.decide-hand.result c.decide-hand.ensures in
-    let within : c.loop-i.i < length c.loop-i.row = omega (arith, fits) in
-    search rules
+    let small = fill_small _ _ _ _ (sym c.decide.ensures ∙ c.in_ok-facts.was) _ _ _ c.loop-i.invariant.2 in
+    record { fits = omega (arith, small, c.in-Some.ensures.steps.1) }
+
+pub bounds-row-i : goal.bounds-row-i
+bounds-row-i c =
+    let within = fill_within _ _ _ _ (sym c.decide.ensures ∙ c.in_ok-facts.was) _ _ _ c.loop-i.invariant.2 _ _ c.in-Some.ensures.steps.0 in
+    rw c.in-Some.ensures.steps.1 within
 
 pub loop-i-preserved : goal.loop-i-preserved
 loop-i-preserved c =
-    let n = c.decide-hand.result.count - (c.loop-i.i + 1) in
-    let more : c.decide-hand.result.count - c.loop-i.i ≡ suc n = omega arith in
-    record {
-      within = omega arith;
-      left = one_slot c.args.bundle.now c.loop-i.at _ n c.loop-i.i c.loop-i.row _ c.take_at-taken.result c.take_at-taken.ensures more c.loop-i.invariant.left;
-    }
+    let given = sym c.decide.ensures ∙ c.in_ok-facts.was in
+    let steps = c.in-Some.ensures.steps in
+    let on = fill_on _ _ _ _ given _ _ _ c.loop-i.invariant.2 _ _ steps.0 _ _ steps.2 c.from.ensures in
+    let small = fill_small _ _ _ _ given _ _ _ on in
+    ((tt, tt, inl (omega (arith, small))), tt, rw steps.1 on)
 
 pub returns : goal.returns
-returns c =
-    let none : c.decide-hand.result.count - c.loop-i.i ≡ 0 = omega arith in
-    hands c.args.rules.now c.args.bundle.now c.args.row.now c.decide-hand.result c.decide-hand.ensures c.loop-i.row
-    (no_slot c.args.bundle.now c.loop-i.at _ c.loop-i.i c.loop-i.row _ none c.loop-i.invariant.left)
+returns c = fill_ends _ _ _ _ (sym c.decide.ensures ∙ c.in_ok-facts.was) _ _ _ c.loop-i.invariant.2 c.in-None.ensures.steps.0.0

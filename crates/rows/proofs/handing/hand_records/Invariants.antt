@@ -1,13 +1,9 @@
--- The loop's invariant: filling the slots that are left, from here, gives the row that filling all of them gives.
-use Rattle.std.proofs.Common.{◌≡◌, ◌-◌, ◌≤◌}
-use Rattle.records.proofs.Filling.{filled}
+use Rattle.bundle.specs.Bundle.{facts_of}
+use Rattle.bundle.specs.Told.{facts_left}
+use Rattle.rows.proofs.Filling.{Filling}
 use Rattle.rows.proofs.handing.hand_records.Given as goal
 
 abbrev pub invariant-loop-i : goal.invariant-loop-i
-invariant-loop-i l = record {
-  within : l.i ≤ l.count;
-  left : filled l.bundle l.at (l.count - l.i) l.i l.row ≡ filled l.bundle l.hand.start l.hand.count 0 l.initial.row;
-}
-
-abbrev pub decreases-loop-i : goal.decreases-loop-i
-decreases-loop-i l = l.count - l.i
+invariant-loop-i l =
+    (goal.iterator-loop-i).can_next l.i-iterator × (goal.iterator-loop-i).is_finite l.i-iterator
+    × Filling (facts_of l.bundle l.facts) l.fn.row l.row l.i-iterator.count (facts_left l.i-iterator.iter)

@@ -1,19 +1,16 @@
--- The passes have no more turns than the row has records; `writes` puts what the callees say together.
-use Rattle.std.proofs.Common.{◌∙◌}
-use Rattle.records.proofs.Passes.{turns_within, writes}
+use Rattle.std.proofs.Common.{sym, ◌∙◌}
+use Rattle.std.proofs.lemmas.Result.{err_from_is_err_and}
+use Rattle.records.proofs.OfRows.{few_roles}
+use Rattle.rows.proofs.Writing.{rules_refused, row_written}
 use Rattle.rows.proofs.row.write_records.Goals as goal
 
-pub push_row-first-requires : goal.push_row-first-requires
-push_row-first-requires c = turns_within c.args.rules.now c.args.row.now c.args.out.now c.open_row-opening.result c.open_row-opening.ensures
+pub returns-in_err-head : goal.returns-in_err-head
+returns-in_err-head c =
+    let p = err_from_is_err_and c.from_residual.result c.from_residual.ensures.1 in
+    rw (p.1, p.2) (rules_refused _ _ _ _ (sym c.check_rules.ensures ∙ c.in_err-head.was))
 
-pub push_row-last-requires : goal.push_row-last-requires
-push_row-last-requires c = turns_within c.args.rules.now c.args.row.now c.args.out.now c.open_row-opening.result c.open_row-opening.ensures
+pub write_facts-requires : goal.write_facts-requires
+write_facts-requires c = few_roles c.args.rules.now _ (sym c.check_rules.ensures ∙ c.in_ok-head.was)
 
 pub returns : goal.returns
-returns c =
-    let first = c.push_row-first in
-    let second = c.turn_over-second in
-    let last = c.push_row-last in
-    rw c.end_row.ensures
-    (writes c.args.rules.now c.args.row.now c.args.out.now first.result second.result last.result first.new.out second.new.out last.new.out
-    first.auto.out (second.auto.out ∙ first.auto.out) c.open_row-opening.result c.open_row-opening.ensures first.ensures second.ensures last.ensures)
+returns c = row_written _ _ _ _ (sym c.check_rules.ensures ∙ c.in_ok-head.was) _ _ c.write_facts.ensures

@@ -1,0 +1,5 @@
+use Rattle.follows.proofs.Adds.{adds}
+use Rattle.follows.proofs.says.add_ring.Goals as goal
+
+pub returns : goal.returns
+returns c = search adds
