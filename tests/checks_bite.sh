@@ -75,7 +75,7 @@ told() {
   cp "$work/before" "$work/copy/$file"
 }
 
-# `mark_of`, `MOST`, `new` and `push` are names that others use; `step_aside` is used by itself and by what nothing uses
+# `mark_of`, `MOST`, `new` and `write_fact` are names that others use; `step_aside` is used by itself and by what nothing uses
 told dead_lemmas.py crates/number/proofs/Laws.antt '\npub mark_of : ℕ → ℕ\nmark_of n = n\n' ': nothing uses mark_of'
 told dead_lemmas.py crates/site/proofs/Order.antt '\nstep_aside : ℕ → ℕ\nstep_aside n = step_aside n\n\nfollows_it : ℕ → ℕ\nfollows_it n = step_aside n\n' ': nothing uses step_aside'
 told dead_lemmas.py crates/site/specs/Kinds.antt '\npub record Pair : Type 0 where\n  pub nowhere_asked : ℕ\n' ': nothing uses nowhere_asked'
@@ -86,7 +86,7 @@ told dead_lemmas.py "$answers" '\npub returns-aside : ℕ → ℕ\nreturns-aside
 told uncalled.py crates/site/src/nodes.rt '\nimpl Role {\n    pub const MOST: u32 = 32;\n}\n' ': nothing uses Role::MOST'
 told uncalled.py crates/site/src/nodes.rt '\nimpl Declared {\n    pub fn new(roles: u32) -> Self {\n        Self { concepts: 0, roles }\n    }\n}\n' ': nothing calls Declared::new'
 told uncalled.py crates/site/src/nodes.rt '\nimpl Concept {\n    pub fn halve(x: u32) -> u32 {\n        if x < 2 {\n            return x;\n        }\n        Concept::halve(x / 2)\n    }\n}\n' ': nothing calls Concept::halve'
-told uncalled.py crates/rule/src/read.rt '\nfn push(x: u32) -> u32 {\n    x\n}\n' ': nothing calls push'
+told uncalled.py crates/rule/src/read.rt '\nfn write_fact(x: u32) -> u32 {\n    x\n}\n' ': nothing calls write_fact'
 told uncalled.py crates/rule/src/read.rt '\nconst ROOM: u32 = 1;\n' ': nothing uses ROOM'
 told uncalled.py crates/rule/src/read.rt '\nstruct Aside<F> {\n    f: F,\n}\n\nimpl<F: Fn(u32) -> u32> Aside<F> {\n    pub const fn aside(self) -> u32 {\n        self.aside_too()\n    }\n}\n' ': nothing calls Aside::aside'
 # a clause and a tactic call nothing

@@ -22,7 +22,10 @@ ROOT = pathlib.Path(sys.argv[1] if len(sys.argv) > 1 else pathlib.Path(__file__)
 TEXTS = {path: path.read_text(encoding="utf-8") for path in sorted(ROOT.glob("crates/*/src/**/*.rt"))}
 TRAITS = {name for text in TEXTS.values() for name in re.findall(r"(?m)^ *(?:pub )?trait (\w+)", text)}
 # called by nothing, with the reason; what they use is not used by that
-ALLOWED = {"site limits_of_kinds": "it is there to be proved: the kinds' constants are the definitions' limits"}
+ALLOWED = {
+    "site limits_of_kinds": "it is there to be proved: the kinds' constants are the definitions' limits",
+    "tables Table::whole": "it is there to be proved: a table is 576 words, whatever was put into it",
+}
 ITEM = re.compile(
     r'(?P<public>extern 0 |#\[test\]\s*(?:#\[[^\]]*\]\s*)*)?\bfn (?P<fn>\w+)|\bconst (?!fn\b)(?P<const>\w+)'
     r"|^ *(?:pub )?(?P<owner>impl|trait)\b(?P<head>[^{;]*)",

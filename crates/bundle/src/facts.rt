@@ -5,6 +5,7 @@ ghost use Rattle.bundle.specs.Bundle.{facts_of};
 ghost use Rattle.bundle.specs.Told.{facts_left};
 
 use crate::one::any_fact_at;
+use number::Read;
 use site::Fact;
 
 // What a bundle's head says: how many facts follow, and where they start.
@@ -42,16 +43,18 @@ impl<'a> Iterator for FactsOf<'a> {
 
     ghost remaining = { item_count facts_left };
 
+    // Each fact is held against every fact by it: it is to be part of the loop that it is called in.
+    #[inline(always)]
     fn next(&mut self) -> Option<Fact> {
         if self.left == 0 {
             return None;
         }
         match any_fact_at(self.bytes, self.at) {
             Err(_) => None,
-            Ok(read) => {
+            Ok(Read { value, next }) => {
                 self.left -= 1;
-                self.at = read.next;
-                Some(read.value)
+                self.at = next;
+                Some(value)
             }
         }
     }

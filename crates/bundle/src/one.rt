@@ -8,6 +8,7 @@ use number::{Answer, Fault, MOST, Read, Side, read_number};
 use site::{Declared, Fact, read_tested};
 
 // The subject, and a role's object, after the predicate.
+#[inline(always)]
 #[tactic(auto, unfolding(crate::specs::Told::fact_rest))]
 fn rest_of_fact(s: &[u8], predicate: u32, at: usize) -> Answer<Read<Fact>>
     ensures { result ≡ fact_rest s.now predicate at }
@@ -34,6 +35,7 @@ fn rest_of_fact(s: &[u8], predicate: u32, at: usize) -> Answer<Read<Fact>>
 }
 
 // The fact at a place, with a test of its predicate.
+#[inline(always)]
 fn read_fact<F: FnOnce(u32) -> bool>(s: &[u8], at: usize, known: F) -> Answer<Read<Fact>>
     requires { F.IsAlwaysCallable known }
     ensures { (k : ℕ → Bool) → ((n : ℕ) (b : Bool) → n < 2 ^ 32 → F.post known n b → b ≡ k n)
@@ -51,6 +53,7 @@ pub fn fact_at(s: &[u8], declared: Declared, at: usize) -> Answer<Read<Fact>>
 }
 
 // The fact whose numbers stand at a place, whatever its predicate.
+#[inline(always)]
 pub fn any_fact_at(s: &[u8], at: usize) -> Answer<Read<Fact>>
     ensures { result ≡ fact_at (λ _. true) s.now at }
 {

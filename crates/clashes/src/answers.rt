@@ -58,18 +58,19 @@ pub struct Counts {
 }
 
 impl Counts {
-    // The counts with one fact more.
+    // The counts with one fact more, of this mark ("0 kept, 1 alone, 2 disputed"); a number that is no mark counts only among the facts.
     #[tactic(auto, unfolding(crate::specs::Tally::one_if))]
-    pub fn with(self, judged: Judged) -> Counts
+    pub fn with(self, mark: u32) -> Counts
         requires { Small self }
-        ensures { result ≡ tallied self (mark_of judged) }
+        ensures { result ≡ tallied self mark }
     {
         let mut counts = self;
         counts.facts += 1;
-        match judged {
-            Judged::Kept => counts.kept += 1,
-            Judged::Alone => counts.alone += 1,
-            Judged::Disputed(_) => counts.disputed += 1,
+        match mark {
+            0 => counts.kept += 1,
+            1 => counts.alone += 1,
+            2 => counts.disputed += 1,
+            _ => {}
         }
         counts
     }

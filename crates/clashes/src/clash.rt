@@ -13,20 +13,17 @@ use site::{BasicRole, Fact};
 use tables::Table;
 
 // Two types at one place that a table relates.
-fn related(table: &Table, x: Typ, y: Typ) -> bool
+pub fn related(table: &Table, x: Typ, y: Typ) -> bool
     ensures { result ≡ related_at table.now x y }
 {
     x.from == y.from && x.to == y.to && table.get(x.node, y.node)
 }
 
-// A type that a table relates to some type of a fact.
-fn relates(table: &Table, x: Typ, g: Fact) -> bool
-    ensures { result ≡ relates_coded table.now g x }
+// A type that a table relates to some of these.
+fn relates(table: &Table, x: Typ, types: &[Typ]) -> bool
+    ensures { result ≡ any (related_at table.now x) types.now }
 {
-    Types::of(g)
-        .as_slice()
-        .iter()
-        .any(|y| related(table, x, *y))
+    types.iter().any(|y| related(table, x, *y))
 }
 
 // "one of whose types, at a or at the pair, is included in the asked code"
@@ -68,10 +65,11 @@ impl Clashes<'_> {
     fn jar(&self, f: Fact, g: Fact) -> bool
         ensures { result ≡ any (relates_coded self.now.excluded.now g) (coded_types f) }
     {
+        let types = Types::of(g);
         Types::of(f)
             .as_slice()
             .iter()
-            .any(|x| relates(self.excluded, *x, g))
+            .any(|x| relates(self.excluded, *x, types.as_slice()))
     }
 
     // "a functional q joins one thing to two different things by them"

@@ -6,5 +6,5 @@ mod clash;
 mod types;
 
 pub use answers::{Counts, Judged};
-pub use clash::{Clashes, supports};
-pub use types::Typ;
+pub use clash::{Clashes, related, supports};
+pub use types::{Typ, Types};

@@ -1,4 +1,3 @@
-pub mod OfWalks
 pub mod OfSearch
 pub mod OfJudging
 pub mod OfRows

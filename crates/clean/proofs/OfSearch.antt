@@ -1,6 +1,6 @@
 -- The search for the lowest clash: what its tests say of `clash`, and what it comes to.
 use Prim.Native.Nat.{ℕ, ◌+◌, ◌≤◌, ◌<◌}
-use mathlib.Core.Path.{◌≡◌, refl, sym, ap, ◌∙◌}
+use mathlib.Core.Path.{◌≡◌, refl, sym, ◌∙◌}
 use mathlib.Core.Bool.{Bool, true, false, cond, ◌&&◌, not, and_comm}
 use mathlib.Core.List.{List, [], ◌∷◌}
 use lib.ListN.{length}
@@ -8,6 +8,8 @@ use native.Mathlib.Omega.{arith}
 use lib.Dec.{ltb}
 use borrow.Author.Tests.{lt-ltb, le-ltb, ltb-true, ltb-false}
 use Rattle.std.specs.Prelude.{Some, None}
+use Rattle.std.specs.List.{position_from, position_or_len}
+use Rattle.std.proofs.lemmas.Iterator.Adapters.{position_from-zero}
 use Rattle.site.specs.declared.fact.Fact.{Fact}
 use Rattle.site.specs.Limits.{most_facts, no_partner}
 use Rattle.site.specs.Lists.{first}
@@ -20,7 +22,6 @@ use Rattle.clashes.specs.Coded.{bits_follow, supports_coded, support_in}
 use Rattle.clashes.specs.Marks.{alone, contradict, clash, partner, marked}
 use Rattle.clashes.specs.declared.types.Typ.{Typ}
 use Rattle.clean.specs.Cleaning.{below, lowest}
-use Rattle.clean.proofs.OfWalks.{Seeking, seek_ends, seek_found, seek_inside}
 
 -- a number that was found
 module _ (none n : ℕ) where
@@ -66,35 +67,36 @@ module _ (t : Follows) (f : Fact) (b : Bool) (is_b : b ≡ alone itself t f) whe
     unfolding clash
     clash_is = rw (← is_b, not_alone) (and_comm (not (alone itself t g)) (contradict itself t f g) ∙ sym is-r)
 
-module _ (t : Follows) (f : Fact) (whole rest : List Fact) (few : length whole ≤ most_facts) (i : ℕ) (so : Seeking no_partner (clash itself t f) whole rest i) where
-  pub search_ends : rest ≡ [] → None ≡ lowest t whole f
-  unfolding partner
-  search_ends e = below_none no_partner _ (omega (arith, seek_ends no_partner (clash itself t f) whole rest i so e))
+-- the library's search for the first that passes, where the list ends before the number that says that there is none
+below_first : (none : ℕ) (p : Fact → Bool) (k : ℕ) (l : List Fact) → k + length l ≤ none → position_from p k l ≡ below none (first none p k l)
+unfolding first
+below_first none p k [] fits = below_none none none (omega arith)
+below_first none p k (g ∷ l) fits = by (p g) (below_first none p (k + 1) l (omega (arith, fits)))
+  where
+    by : (b : Bool) → position_from p (k + 1) l ≡ below none (first none p (k + 1) l) → cond b (Some k) (position_from p (k + 1) l) ≡ below none (cond b k (first none p (k + 1) l))
+    by true rest = below_found none k (omega (arith, fits))
+    by false rest = rest
 
-  pub search_found : (g : Fact) (rest' : List Fact) → rest ≡ g ∷ rest' → clash itself t f g ≡ true → (k : ℕ) → k ≡ i → Some k ≡ lowest t whole f
-  unfolding partner
-  search_found g rest' one h k z =
-      let found = seek_found no_partner (clash itself t f) whole rest i so g rest' one h in
-      let inside = seek_inside no_partner (clash itself t f) whole rest i so g rest' one in
-      ap Some (z ∙ found) ∙ below_found no_partner _ (omega (arith, few, found, inside))
+module _ (none : ℕ) (p : Fact → Bool) (facts : List Fact) (fits : length facts ≤ none) where
+  found_first : cond (ltb (position_or_len p facts) (length facts)) (Some (position_or_len p facts)) None ≡ below none (first none p 0 facts)
+  found_first = position_from-zero p facts ∙ below_first none p 0 facts (omega (arith, fits))
 
 -- the facts of a bundle are few
 pub few_facts : (s : List ℕ) (facts : Facts) → facts.count ≤ most_facts → length (facts_of s facts) ≤ most_facts
 few_facts s facts few = omega (arith, facts_few s facts.count facts.start, few)
+
+-- the search for the lowest clash
+pub lowest_found : (t : Follows) (f : Fact) (facts : List Fact) → length facts ≤ most_facts
+    → cond (ltb (position_or_len (clash itself t f) facts) (length facts)) (Some (position_or_len (clash itself t f) facts)) None ≡ lowest t facts f
+unfolding partner
+lowest_found t f facts few = found_first no_partner (clash itself t f) facts (omega (arith, few))
 
 -- the search for a kept fact that supports
 module _ (included excluded : List ℕ) (functional : ℕ) (bundle : List ℕ) (facts : Facts) (asked : Typ) where
   abbrev pub supporting : Fact → Bool
   supporting f = marked itself (bits_follow [] excluded functional) (facts_of bundle facts) 0 f && supports_coded included asked f
 
-  module _ (rest : List Fact) (i : ℕ) (so : Seeking facts.count supporting (facts_of bundle facts) rest i) where
-    pub support_ends : rest ≡ [] → None ≡ below facts.count (support_in included excluded functional bundle facts asked)
-    unfolding support_in
-    support_ends e = below_none facts.count _ (omega (arith, seek_ends facts.count supporting (facts_of bundle facts) rest i so e))
-
-    pub support_found : (f : Fact) (rest' : List Fact) → rest ≡ f ∷ rest' → supporting f ≡ true → (k : ℕ) → k ≡ i → Some k ≡ below facts.count (support_in included excluded functional bundle facts asked)
-    unfolding support_in
-    support_found f rest' one h k z =
-        let found = seek_found facts.count supporting (facts_of bundle facts) rest i so f rest' one h in
-        let inside = seek_inside facts.count supporting (facts_of bundle facts) rest i so f rest' one in
-        ap Some (z ∙ found) ∙ below_found facts.count _ (omega (arith, found, inside, facts_few bundle facts.count facts.start))
+  pub support_found : cond (ltb (position_or_len supporting (facts_of bundle facts)) (length (facts_of bundle facts))) (Some (position_or_len supporting (facts_of bundle facts))) None
+      ≡ below facts.count (support_in included excluded functional bundle facts asked)
+  unfolding support_in
+  support_found = found_first facts.count supporting (facts_of bundle facts) (facts_few bundle facts.count facts.start)

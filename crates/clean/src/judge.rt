@@ -26,12 +26,7 @@ impl<'a> Cleaning<'a> {
         if self.by.is_alone(f) {
             return None;
         }
-        for (i, g) in self.facts().enumerate() {
-            if self.by.disputes(f, g) {
-                return Some(i);
-            }
-        }
-        None
+        self.facts().position(|g| self.by.disputes(f, g))
     }
 
     // The mark and the partner of one fact.

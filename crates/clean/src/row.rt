@@ -15,7 +15,7 @@ impl Cleaning<'_> {
     {
         let mut tally = Counts::default();
         for f in self.facts() {
-            tally = tally.with(self.judge(f));
+            tally = tally.with(self.judge(f).mark());
         }
         tally
     }
@@ -31,7 +31,7 @@ impl Cleaning<'_> {
             let judged = self.judge(f);
             marks[i] = judged.mark() as u8;
             partners[i] = judged.partner() as u16;
-            tally = tally.with(judged);
+            tally = tally.with(judged.mark());
         }
         tally
     }

@@ -23,11 +23,6 @@ impl Cleaning<'_> {
         ensures { result ≡ below self.now.facts.count
             (support_in included.now self.now.by.excluded.now self.now.by.functional self.now.bundle.now self.now.facts asked) }
     {
-        for (i, f) in self.facts().enumerate() {
-            if self.keeps(included, asked, f) {
-                return Some(i);
-            }
-        }
-        None
+        self.facts().position(|f| self.keeps(included, asked, f))
     }
 }

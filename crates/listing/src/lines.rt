@@ -1,5 +1,6 @@
 // One line of the listing, whole, at the start of a lent line; the answer is its length.
 ghost use Rattle.std.specs.Prelude.{◌+◌, ◌≤◌, length};
+ghost use Rattle.clashes.specs.Judging.{judged_so};
 ghost use Rattle.listing.specs.Lines.{counts_line, fact_line, refusal_line, LaidMark, LaidPlace, Line};
 
 use crate::put::{put_decimal, put_named, put_word};
@@ -54,9 +55,10 @@ fn put_mark(out: &mut [u8], at: usize, judged: Judged) -> usize
 }
 
 // "each other line has the fact's number, its mark, and for a disputed fact its partner"
-pub fn fact_line(out: &mut [u8; ROOM], number: usize, judged: Judged) -> usize
-    ensures { Line out.old (fact_line number judged) result out.new }
+pub fn fact_line(out: &mut [u8; ROOM], number: usize, mark: u8, partner: u16) -> usize
+    ensures { Line out.old (fact_line number (judged_so mark partner)) result out.new }
 {
+    let judged = Judged::new(mark as u32, partner as u32);
     let a = put_decimal(out, 0, number as u64);
     let b = put_mark(out, a, judged);
     put_word(out, b, &NEWLINE)

@@ -4,7 +4,7 @@ ghost use Rattle.listing.specs.Lines.{Line};
 ghost use Rattle.listing.specs.Listing.{lines_of, line_at, Within};
 
 use crate::lines::{ROOM, counts_line, fact_line, refusal_line};
-use clashes::{Counts, Judged};
+use clashes::Counts;
 use number::Answer;
 
 pub fn count_lines(counted: Answer<Counts>) -> usize
@@ -34,8 +34,7 @@ pub fn write_line(
                 return counts_line(out, c);
             }
             let fact = number - 1;
-            let judged = Judged::new(marks[fact] as u32, partners[fact] as u32);
-            fact_line(out, fact, judged)
+            fact_line(out, fact, marks[fact], partners[fact])
         }
         Err(r) => refusal_line(out, r),
     }

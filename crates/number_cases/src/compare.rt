@@ -2,16 +2,25 @@
 ghost use Rattle.std.specs.Prelude.{◌≤◌};
 
 use crate::expected::{Valued, Wanted, digit};
-use number::{Answer, Fault, MOST, Refusal, Side};
+use number::{MOST, Refusal, Side};
 
 // What stands around the bytes that are written.
 const GUARD: u8 = 165;
 
-// A reading is the expected one, of the rules from their first byte on; a number by itself is in no item.
+// A refusal of this number on this side, both as document 01 writes them, at place 0; a number by itself is in no item. Its four parts are
+// compared one by one, and with nothing that the number crate makes.
+fn refused(got: Refusal, number: u32, side: u32) -> bool {
+    u32::from(got.fault) == number
+        && u32::from(got.side) == side
+        && got.place == 0
+        && got.item.is_none()
+}
+
+// A reading is the expected one, of the rules (side 0) from their first byte on.
 pub fn read(s: &[u8], wanted: Wanted) -> bool {
     match (number::read_number(s, 0, MOST, Side::Rules), wanted) {
         (Ok(got), Ok(v)) => got.value == v.value && got.next == v.size,
-        (Err(got), Err(fault)) => got == Refusal::new(fault, Side::Rules, 0),
+        (Err(got), Err(number)) => refused(got, number, 0),
         _ => false,
     }
 }
@@ -39,11 +48,13 @@ fn holds(out: &[u8], word: u32, size: usize) -> bool {
         .all(|(i, b)| *b == slot(word, size, i))
 }
 
-// One byte of room too few: refusal 9 of the call, and nothing written.
+// One byte of room too few: refusal 9 of the call (side 2), and nothing written.
 pub fn stopped(v: Valued) -> bool
     requires { v.size ≤ 3 }
 {
     let mut out = [GUARD; 5];
-    let wrote = number::write_number(&mut out, 6 - v.size, v.value, MOST);
-    wrote == Err(Refusal::new(Fault::Room, Side::Call, 0)) && holds(&out, 0, 0)
+    match number::write_number(&mut out, 6 - v.size, v.value, MOST) {
+        Ok(_) => false,
+        Err(got) => refused(got, 9, 2) && holds(&out, 0, 0),
+    }
 }

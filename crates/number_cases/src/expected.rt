@@ -1,8 +1,6 @@
 // What document 01 says of a string, computed from the whole string as one number, and not byte after byte as the reader goes.
 ghost use Rattle.std.specs.Prelude.{◌≤◌, IfOk};
 
-use number::Fault;
-
 // A value and how many bytes its string has.
 #[derive(Clone, Copy, PartialEq, Eq)]
 pub struct Valued {
@@ -10,8 +8,8 @@ pub struct Valued {
     pub size: usize,
 }
 
-// What is expected of a string: its value, or the fault of its refusal.
-pub type Wanted = Result<Valued, Fault>;
+// What is expected of a string: its value, or the number of its refusal in document 01's table.
+pub type Wanted = Result<Valued, u32>;
 
 // A string as one number: byte i is digit i to the base 256.
 pub fn digit(word: u32, i: usize) -> u8 {
@@ -70,17 +68,17 @@ pub fn expected(word: u32, length: usize) -> Wanted
 {
     let size = reach(word);
     if 3 < size {
-        return Err(Fault::Over);
+        return Err(3);
     }
     if length < size {
-        return Err(Fault::Cut);
+        return Err(1);
     }
     let value = groups(word, size);
     if shortest(value) < size {
-        return Err(Fault::Long);
+        return Err(2);
     }
     if 65535 < value {
-        return Err(Fault::Over);
+        return Err(3);
     }
     Ok(Valued { value, size })
 }

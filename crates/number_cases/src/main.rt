@@ -9,7 +9,6 @@ mod expected;
 
 use compare::{read, stopped, written};
 use expected::{Valued, Wanted, digit, expected};
-use number::Fault;
 use std::io;
 
 // Document 01's cases, by their order there.
@@ -36,10 +35,10 @@ fn case(i: u32) -> bool {
                 size: 3,
             }),
         ),
-        3 => read(b"\x80\x80\x04", Err(Fault::Over)),
-        4 => read(b"\x80\x00", Err(Fault::Long)),
-        5 => read(b"\x80\x80\x80", Err(Fault::Over)),
-        _ => read(b"\x80", Err(Fault::Cut)),
+        3 => read(b"\x80\x80\x04", Err(3)),
+        4 => read(b"\x80\x00", Err(2)),
+        5 => read(b"\x80\x80\x80", Err(3)),
+        _ => read(b"\x80", Err(1)),
     }
 }
 

@@ -178,6 +178,10 @@ module _ (rules bundle : List ℕ) (h : Head) (b : Facts) (acc : Accepted rules 
   unfolding asking
   ask_over n past = rw (given_is, le-ltb n (length facts) past)
 
+  -- the head says how many there are
+  pub ask_past : (n : ℕ) → b.count ≤ n → Err (refusal NoFact Call 0) ≡ asking rules bundle n
+  ask_past n past = ask_over n (omega (arith, as_many, past))
+
 -- a fact by its number, from the list of them
 module _ (facts : List Fact) (n : ℕ) where
   pub none_at : (r : Option Fact) → option_map (λ f. f) r ≡ slice_get facts n → r ≡ None → length facts ≤ n

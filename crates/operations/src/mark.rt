@@ -33,6 +33,10 @@ impl Files<'_> {
     fn ask(&self, number: u64) -> Answer<Judged>
         ensures { result ≡ asking self.now.rules.now self.now.bundle.now number }
     {
+        // a number past the count is refused before any fact is read again
+        if number >= self.inputs.facts.count as u64 {
+            return Err(Refusal::of_call(Fault::NoFact));
+        }
         let fact = FactsOf::new(self.bundle, self.inputs.facts)
             .nth(number as usize)
             .ok_or(Refusal::of_call(Fault::NoFact))?;

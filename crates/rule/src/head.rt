@@ -42,9 +42,18 @@ impl Head {
 pub fn read_head(s: &[u8]) -> Answer<Head>
     ensures { result ≡ head_of s.now }
 {
-    let concepts = read_within(s, 0, Concept::COUNT, Fault::Count, Side::Rules)?;
-    let roles = read_within(s, concepts.next, Role::COUNT, Fault::Count, Side::Rules)?;
-    let rules = read_within(s, roles.next, Rule::MOST, Fault::Count, Side::Rules)?;
+    let first = read_within(s, 0, Concept::COUNT, Fault::Count, Side::Rules);
+    let Ok(concepts) = first else {
+        return Err(first.unwrap_err());
+    };
+    let second = read_within(s, concepts.next, Role::COUNT, Fault::Count, Side::Rules);
+    let Ok(roles) = second else {
+        return Err(second.unwrap_err());
+    };
+    let third = read_within(s, roles.next, Rule::MOST, Fault::Count, Side::Rules);
+    let Ok(rules) = third else {
+        return Err(third.unwrap_err());
+    };
     Ok(Head {
         concepts: concepts.value,
         roles: roles.value,

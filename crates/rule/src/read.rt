@@ -44,15 +44,24 @@ fn read_code(s: &[u8], head: Head, kind: Kind, at: usize) -> Answer<Read<u32>>
 pub fn rule_at(s: &[u8], head: Head, at: usize) -> Answer<Read<Rule>>
     ensures { rule_read result ≡ rule_at head s.now at }
 {
-    let kind = read_kind(s, at)?;
-    let x = read_code(s, head, kind.value, kind.next)?;
+    let first = read_kind(s, at);
+    let Ok(kind) = first else {
+        return Err(first.unwrap_err());
+    };
+    let second = read_code(s, head, kind.value, kind.next);
+    let Ok(x) = second else {
+        return Err(second.unwrap_err());
+    };
     if kind.value == Kind::Functional {
         return Ok(Read {
             value: Rule::of_kind(kind.value, x.value, 0),
             next: x.next,
         });
     }
-    let y = read_code(s, head, kind.value, x.next)?;
+    let third = read_code(s, head, kind.value, x.next);
+    let Ok(y) = third else {
+        return Err(third.unwrap_err());
+    };
     Ok(Read {
         value: Rule::of_kind(kind.value, x.value, y.value),
         next: y.next,

@@ -1,5 +1,5 @@
 // Tables of bits: a row of three words for each node, and in it a bit for each node.
-ghost use Rattle.std.specs.Prelude.{◌≡◌, replicate};
+ghost use Rattle.std.specs.Prelude.{◌≡◌, length, replicate};
 ghost use Rattle.tables.specs.Bits.{has, Added, Joined};
 ghost use Rattle.tables.specs.Rows.{row_of};
 
@@ -8,14 +8,14 @@ use site::{BasicConcept, BasicRole};
 use std::marker::Model;
 
 // The nodes: 128 basic concepts and 64 basic roles.
-const NODES: usize = BasicConcept::COUNT as usize + BasicRole::COUNT as usize;
+pub const NODES: usize = BasicConcept::COUNT as usize + BasicRole::COUNT as usize;
 // The words of a row, and the bits of a word.
-pub(crate) const WORDS: usize = 3;
+pub const WORDS: usize = 3;
 
-pub(crate) const BITS: usize = 64;
+pub const BITS: usize = 64;
 
 // A table is seen as the list of its words.
-#[derive(Drop)]
+#[derive(Clone, Copy)]
 pub struct Table {
     words: [u64; NODES * WORDS],
 }
@@ -26,6 +26,8 @@ impl Model for Table {
     ghost Value = { List ℕ };
 
     ghost view = { λ t. t.words };
+
+    ghost inverse = { λ words. record { words = words } };
 }
 
 #[tactic(auto, using(crate::proofs::Words::words, crate::proofs::Rows::rows))]
@@ -37,6 +39,13 @@ impl Table {
         Table {
             words: [0; NODES * WORDS],
         }
+    }
+
+    // A table is all its words, whatever was put into it. This only says so, to who has to know it.
+    pub fn whole(&self)
+        ensures { length self.now ≡ 576 }
+    {
+        let _words = self.words;
     }
 
     // Has the table y in row x?

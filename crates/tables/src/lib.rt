@@ -6,6 +6,6 @@ mod closure;
 mod listed;
 mod row;
 
-pub use bits::Table;
+pub use bits::{BITS, NODES, Table, WORDS};
 pub use listed::Nodes;
 pub use row::Row;

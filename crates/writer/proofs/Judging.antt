@@ -1,12 +1,13 @@
 -- Judging records one after the other: a fault stops at its record's number, and exactly lawful facts have none.
-use Prim.Native.Nat.{ℕ, ◌+◌, ◌≤◌, ◌<◌}
+use Prim.Native.Nat.{ℕ, ◌+◌, ◌-◌, ◌≤◌, ◌<◌}
 use mathlib.Core.Path.{◌≡◌, refl, sym, ap, ◌∙◌}
 use mathlib.Core.Bool.{Bool, true, false, cond, ◌&&◌, not}
 use mathlib.Core.List.{List, [], ◌∷◌}
 use lib.ListN.{length}
 use lib.Dec.{leb, eqb}
 use native.Mathlib.Omega.{arith}
-use borrow.Author.Tests.{le-leb, eq-eqb, leb-true, eqb-true, not-false}
+use borrow.Author.Tests.{le-leb, eq-eqb, leb-true, leb-false, eqb-true, not-false}
+use borrow.Author.Rules.{rules}
 use Rattle.std.specs.Prelude.{Option, Some, None, Ok, Err}
 use Rattle.std.specs.List.{All}
 use Rattle.std.proofs.lemmas.List.Elements.{All-nil, All-cons}
@@ -18,14 +19,14 @@ use Rattle.number.specs.declared.refusal.Side.TheVariants.{Call}
 use Rattle.number.proofs.Answers.{never}
 use Rattle.site.specs.declared.fact.Fact.{Fact}
 use Rattle.site.specs.Kinds.{of_concept}
-use Rattle.site.specs.Limits.{most_number, most_roles, most_thing}
+use Rattle.site.specs.Limits.{most_number, most_thing}
 use Rattle.rule.specs.declared.head.Head.{Head}
 use Rattle.bundle.specs.Bundle.{ascends, predicate_known}
 use Rattle.bundle.specs.Lawful.{LawfulFact, LawfulFrom}
 use Rattle.bundle.specs.Lawful.LawfulFrom.{done, next}
-use Rattle.bundle.proofs.Longest.{declared_low}
-use Rattle.writer.specs.Records.{record_fault, refused_or, records_from}
+use Rattle.writer.specs.Records.{within, record_fault, refused_or, records_from}
 use Rattle.writer.specs.Stored.{Formed}
+use Rattle.writer.proofs.Within.{known_below, within_known, within_unknown}
 
 -- one turn of the judging, where what is left comes to what the whole does
 module _ (h : Head) (last : Option Fact) (k : ℕ) (left : List Fact) (whole : Answer ℕ) (same : records_from h last k left ≡ whole) where
@@ -44,18 +45,34 @@ module _ (h : Head) (last : Option Fact) (k : ℕ) (left : List Fact) (whole : A
     pub judged_on : found ≡ None → records_from h (Some f) (k + 1) rest ≡ whole
     judged_on none = ap (λ (o : Option Fault). refused_or o k (records_from h (Some f) (k + 1) rest)) (sym none) ∙ turn
 
--- a predicate that is not declared, as under accepted rules every one is that is over every number
+-- a predicate that is not declared; under any head that is one over every number, and below that what the head says counts
 module _ (h : Head) (last : Option Fact) (f : Fact) where
   pub fault_unknown : predicate_known h f.predicate ≡ false → record_fault h last f ≡ Some Unknown
   unfolding record_fault
   fault_unknown e = rw e
 
-  pub fault_over : h.roles ≤ most_roles → most_number < f.predicate → record_fault h last f ≡ Some Unknown
-  fault_over few k = fault_unknown (by_test (predicate_known h f.predicate) refl)
+  over_all : most_number < f.predicate → record_fault (within h) last f ≡ Some Unknown
+  unfolding record_fault
+  over_all k = rw (within_unknown h f.predicate k)
+
+  below_all : f.predicate ≤ most_number → record_fault (within h) last f ≡ record_fault h last f
+  unfolding record_fault
+  below_all low = rw (within_known h f.predicate low)
+
+  pub fault_over : most_number < f.predicate → Some Unknown ≡ record_fault (within h) last f
+  fault_over k = sym (over_all k)
+
+  pub fault_below : f.predicate ≤ most_number → (o : Option Fault) → o ≡ record_fault h last f → o ≡ record_fault (within h) last f
+  fault_below low o is = is ∙ sym (below_all low)
+
+  pub same_fault : record_fault (within h) last f ≡ cond (leb f.predicate most_number) (record_fault h last f) (Some Unknown)
+  same_fault = by_test (leb f.predicate most_number) refl
     where
-      by_test : (t : Bool) → predicate_known h f.predicate ≡ t → predicate_known h f.predicate ≡ false
-      by_test true is = let low = declared_low h.concepts h.roles f.predicate few is in absurd (omega arith)
-      by_test false is = is
+      by_test : (t : Bool) → leb f.predicate most_number ≡ t → record_fault (within h) last f ≡ cond t (record_fault h last f) (Some Unknown)
+      by_test true is = below_all (leb-true f.predicate most_number is)
+      by_test false is = over_all (leb-false f.predicate most_number is)
+
+pub ruleset faults = (fault_over, fault_below, rules)
 
 -- a fault that is none: the test found nothing
 record NoFault (t : Bool) (rest : Option Fault) : Type 0 where
@@ -125,11 +142,11 @@ module _ (h : Head) where
   lawful_accepted done k = ap Ok (omega arith)
   lawful_accepted (next {last = last} {f = f} l up rest) k = rw (lawful_faultless last f l up) (lawful_accepted rest (k + 1) ∙ ap Ok (omega arith))
 
--- under rules within the limits the numbers of lawful facts have forms
-pub lawful_formed : (h : Head) → h.roles ≤ most_roles → {last : Option Fact} {fs : List Fact} → LawfulFrom h last fs → All Formed fs
+-- the numbers of lawful facts have forms, where no predicate over every number is declared
+pub lawful_formed : (h : Head) → h.roles ≤ most_number - 63 → {last : Option Fact} {fs : List Fact} → LawfulFrom h last fs → All Formed fs
 lawful_formed h few done = All-nil Formed
 lawful_formed h few (next {f = f} {fs = fs} l up rest) =
-    let low = declared_low h.concepts h.roles f.predicate few l.known in
+    let low = known_below h few f.predicate l.known in
     All-cons Formed f fs
     (record { predicate = omega (arith, low); subject = omega (arith, l.subject_within); object = omega (arith, l.object_within) })
     (lawful_formed h few rest)

@@ -5,3 +5,4 @@ pub mod Laying
 pub mod Left
 pub mod OneWriting
 pub mod TwoPasses
+pub mod Within

@@ -1,18 +1,22 @@
 -- Writing a bundle: the room it needs, and the judging of records that are handed in to be written.
-use Rattle.std.specs.Prelude.{ℕ, ◌+◌, cond, ◌&&◌, not, List, [], ◌∷◌, length, leb, eqb, Option, Some, None, Ok, Err}
+use Rattle.std.specs.Prelude.{ℕ, ◌+◌, ◌-◌, min, cond, ◌&&◌, not, List, [], ◌∷◌, length, leb, eqb, Option, Some, None, Ok, Err}
 use Rattle.number.specs.Answer.{Answer, refusal, ◌then◌}
 use Rattle.number.specs.declared.refusal.Fault.{Fault}
 use Rattle.number.specs.declared.refusal.Fault.TheVariants.{Over, Count, Unknown, Order, Room, Object}
 use Rattle.number.specs.declared.refusal.Side.TheVariants.{Call}
 use Rattle.site.specs.declared.fact.Fact.{Fact}
 use Rattle.site.specs.Kinds.{of_concept}
-use Rattle.site.specs.Limits.{most_facts, most_thing}
+use Rattle.site.specs.Limits.{most_facts, most_number, most_thing}
 use Rattle.rule.specs.declared.head.Head.{Head}
 use Rattle.bundle.specs.Bundle.{ascends, predicate_known, bundle_of}
 
 -- refusal 9: "a lent output is too short"
 unfoldable pub room_for : ℕ → List ℕ → Answer (List ℕ)
 room_for room bytes = cond (leb (length bytes) room) (Ok bytes) (Err (refusal Room Call 0))
+
+-- no predicate over 65,535 is declared, whatever the head, also one that no rule file gives: 64+j is a predicate's number only for j below this
+unfoldable pub within : Head → Head
+within h = record { concepts = h.concepts; roles = min h.roles (most_number - 63); rules = h.rules; start = h.start }
 
 -- "each record's predicate (5), object of a concept (5), subject (3), object (3), order (8)", at the record's number; since request 2 the second is
 -- "12 object on a concept record"

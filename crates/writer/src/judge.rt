@@ -1,6 +1,6 @@
 // Judging records: each one's fault, and the first record that has one.
 ghost use Rattle.std.specs.Prelude.{◌≡◌, map};
-ghost use Rattle.writer.specs.Records.{record_fault, records_from};
+ghost use Rattle.writer.specs.Records.{within, record_fault, records_from};
 
 use crate::record::HasFact;
 use bundle::ascends;
@@ -8,9 +8,9 @@ use number::{Answer, Fault, MOST, Refusal, Side};
 use rule::Head;
 use site::Fact;
 
-// The fault of a record, if it has one, after the one before it.
+// The fault of a record, if it has one, after the one before it, by what the head says alone.
 #[tactic(auto, unfolding(crate::specs::Records::record_fault))]
-fn record_fault(head: Head, last: Option<Fact>, fact: Fact) -> Option<Fault>
+fn fault_under(head: Head, last: Option<Fact>, fact: Fact) -> Option<Fault>
     ensures { result ≡ record_fault head last fact }
 {
     if !head.declared().has_predicate(fact.predicate) {
@@ -28,9 +28,20 @@ fn record_fault(head: Head, last: Option<Fact>, fact: Fact) -> Option<Fault>
     None
 }
 
+// The fault of a record: the caller's head may say any number of roles, and a predicate over every number is unknown all the same.
+#[tactic(auto, using(crate::proofs::Judging::faults))]
+fn record_fault(head: Head, last: Option<Fact>, fact: Fact) -> Option<Fault>
+    ensures { result ≡ record_fault (within head) last fact }
+{
+    if MOST < fact.predicate {
+        return Some(Fault::Unknown);
+    }
+    fault_under(head, last, fact)
+}
+
 // How many records there are, or the first fault, at its record's number.
 pub fn judge_records<R: HasFact>(head: Head, records: &[R]) -> Answer<usize>
-    ensures { result ≡ records_from head None 0 (map R.fact_of records.now) }
+    ensures { result ≡ records_from (within head) None 0 (map R.fact_of records.now) }
 {
     let mut last = None;
     for (i, record) in records.iter().enumerate() {

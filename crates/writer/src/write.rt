@@ -1,7 +1,8 @@
 // Writing records as a bundle: they are judged, then measured, then stored.
 ghost use Rattle.std.specs.Prelude.{◌≡◌, ◌≤◌, length, map};
-ghost use Rattle.site.specs.Limits.{most_facts, most_roles};
+ghost use Rattle.site.specs.Limits.{most_facts};
 ghost use Rattle.bundle.specs.Bundle.{bundle_of};
+ghost use Rattle.writer.specs.Records.{within};
 ghost use Rattle.writer.specs.Stored.{StoresFacts, StoredFacts, WritesFacts};
 
 use crate::judge::judge_records;
@@ -38,8 +39,7 @@ fn store_facts<R: HasFact>(records: &[R], out: &mut [u8]) -> usize
 
 // "Records: count (4), then each record"; then room, and nothing is written before all that is judged.
 pub fn write_facts<R: HasFact>(head: Head, records: &[R], out: &mut [u8]) -> Answer<usize>
-    requires { head.roles ≤ most_roles }
-    ensures { WritesFacts head (map R.fact_of records.now) out.old result out.new }
+    ensures { WritesFacts (within head) (map R.fact_of records.now) out.old result out.new }
 {
     if Fact::MOST < records.len() {
         return Err(Refusal::of_call(Fault::Count));

@@ -4,4 +4,4 @@ use Rattle.listing.proofs.OfLines.{fact_done}
 use Rattle.listing.proofs.lines.fact_line.Goals as goal
 
 pub returns : goal.returns
-returns c = fact_done c.put_decimal-a.ensures c.put_mark-b.ensures c.put_word.ensures (search rules)
+returns c = rw (← c.new-judged.ensures) (fact_done c.put_decimal-a.ensures c.put_mark-b.ensures c.put_word.ensures (search rules))

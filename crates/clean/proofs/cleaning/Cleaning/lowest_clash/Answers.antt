@@ -1,31 +1,25 @@
-use Rattle.std.proofs.Common.{inl, ap, ◌∙◌, arith}
+use Rattle.std.proofs.Common.{rules, tests, inl, ap, sym, ◌∙◌, arith, length, List}
+use Rattle.std.proofs.lemmas.Iterator.Consumers.{YieldsList-from_first}
+use Rattle.std.proofs.lemmas.Iterator.Search.{position_from_yields_List}
+use Rattle.site.specs.declared.fact.Fact.{Fact}
 use Rattle.bundle.specs.Told.{facts_left}
-use Rattle.bundle.specs.declared.facts.FactsOf.{FactsOf}
-use Rattle.clean.proofs.OfWalks.{seek_start, seek_on}
-use Rattle.clean.proofs.OfSearch.{few_facts, lowest_of_alone, clash_is, search_ends, search_found}
+use Rattle.clashes.specs.Types.{itself}
+use Rattle.clashes.specs.Marks.{clash}
+use Rattle.clean.specs.Cleaning.{the_facts, follows}
+use Rattle.clean.proofs.OfSearch.{few_facts, lowest_of_alone, clash_is, lowest_found}
 use Rattle.clean.proofs.cleaning.Cleaning.lowest_clash.Goals as goal
 
 pub returns-then-is_alone : goal.returns-then-is_alone
 returns-then-is_alone c = lowest_of_alone _ _ _ c.is_alone.ensures c.if-is_alone.true _
 
-pub loop-i-init : goal.loop-i-init
-loop-i-init c =
-    let start = seek_start _ _ _ _ (ap (λ (w : FactsOf). facts_left w) c.enumerate-i-items.ensures.source ∙ c.facts.ensures) _ c.enumerate-i-items.ensures.count in
+pub position-requires-clause-fits : goal.position-requires-clause-fits
+position-requires-clause-fits c =
     let few = few_facts c.args.self.now.bundle.now c.args.self.now.facts c.args.self.now.few in
-    rw c.into_iter-i-iterator.ensures.into_iter_gives ((tt, tt, inl (omega (arith, few, start.counted))), tt, start)
-
-pub returns-then-disputes : goal.returns-then-disputes
-returns-then-disputes c =
-    let steps = c.in-Some.ensures.steps in
-    search_found _ _ _ _ (few_facts c.args.self.now.bundle.now c.args.self.now.facts c.args.self.now.few) _ c.loop-i.invariant.2 _ _ steps.0
-    (clash_is _ _ _ c.is_alone.ensures c.if-is_alone.false _ _ c.disputes.ensures ∙ c.if-disputes.true) _ steps.1
-
-pub loop-i-preserved : goal.loop-i-preserved
-loop-i-preserved c =
-    let steps = c.in-Some.ensures.steps in
-    let on = seek_on _ _ _ _ _ c.loop-i.invariant.2 _ _ steps.0 (clash_is _ _ _ c.is_alone.ensures c.if-is_alone.false _ _ c.disputes.ensures ∙ c.if-disputes.false) _ steps.2 in
-    let few = few_facts c.args.self.now.bundle.now c.args.self.now.facts c.args.self.now.few in
-    ((tt, tt, inl (omega (arith, few, on.counted))), tt, on)
+    inl (omega (arith, few, ap (λ (l : List Fact). length l) c.facts.ensures))
 
 pub returns : goal.returns
-returns c = search_ends _ _ _ _ (few_facts c.args.self.now.bundle.now c.args.self.now.facts c.args.self.now.few) _ c.loop-i.invariant.2 c.in-None.ensures.steps.0.0
+returns c =
+    position_from_yields_List (clash itself (follows c.args.self.now) c.args.f) c.position.new.self _ _ c.position.ensures.ran
+    (YieldsList-from_first (λ (g : Fact). g) facts_left (the_facts c.args.self.now) c.facts.ensures)
+    (λ g b q k. (search (rules, tests), sym (clash_is _ _ _ c.is_alone.ensures c.if-is_alone.false g b (search (rules, tests)))))
+    ∙ lowest_found _ _ _ (few_facts c.args.self.now.bundle.now c.args.self.now.facts c.args.self.now.few)

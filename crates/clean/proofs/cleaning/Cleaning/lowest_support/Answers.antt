@@ -1,27 +1,22 @@
-use Rattle.std.proofs.Common.{inl, ap, sym, ◌∙◌, arith}
+use Rattle.std.proofs.Common.{rules, tests, inl, ap, ◌∙◌, arith, length, List}
+use Rattle.std.proofs.lemmas.Iterator.Consumers.{YieldsList-from_first}
+use Rattle.std.proofs.lemmas.Iterator.Search.{position_from_yields_List}
+use Rattle.site.specs.declared.fact.Fact.{Fact}
 use Rattle.bundle.specs.Told.{facts_left}
-use Rattle.bundle.specs.declared.facts.FactsOf.{FactsOf}
-use Rattle.clean.proofs.OfWalks.{seek_start, seek_on}
-use Rattle.clean.proofs.OfSearch.{few_facts, support_ends, support_found}
+use Rattle.clean.specs.Cleaning.{the_facts}
+use Rattle.clean.proofs.OfSearch.{few_facts, supporting, support_found}
 use Rattle.clean.proofs.cleaning.Cleaning.lowest_support.Goals as goal
 
-pub loop-i-init : goal.loop-i-init
-loop-i-init c =
-    let start = seek_start _ _ _ _ (ap (λ (w : FactsOf). facts_left w) c.enumerate-i-items.ensures.source ∙ c.facts.ensures) _ c.enumerate-i-items.ensures.count in
+pub position-requires-clause-fits : goal.position-requires-clause-fits
+position-requires-clause-fits c =
     let few = few_facts c.args.self.now.bundle.now c.args.self.now.facts c.args.self.now.few in
-    rw c.into_iter-i-iterator.ensures.into_iter_gives ((tt, tt, inl (omega (arith, few, start.counted))), tt, start)
-
-pub returns-then-keeps : goal.returns-then-keeps
-returns-then-keeps c =
-    let steps = c.in-Some.ensures.steps in
-    support_found _ _ _ _ _ _ _ _ c.loop-i.invariant.2 _ _ steps.0 (sym c.keeps.ensures ∙ c.if-keeps.true) _ steps.1
-
-pub loop-i-preserved : goal.loop-i-preserved
-loop-i-preserved c =
-    let steps = c.in-Some.ensures.steps in
-    let on = seek_on _ _ _ _ _ c.loop-i.invariant.2 _ _ steps.0 (sym c.keeps.ensures ∙ c.if-keeps.false) _ steps.2 in
-    let few = few_facts c.args.self.now.bundle.now c.args.self.now.facts c.args.self.now.few in
-    ((tt, tt, inl (omega (arith, few, on.counted))), tt, on)
+    inl (omega (arith, few, ap (λ (l : List Fact). length l) c.facts.ensures))
 
 pub returns : goal.returns
-returns c = support_ends _ _ _ _ _ _ _ _ c.loop-i.invariant.2 c.in-None.ensures.steps.0.0
+returns c =
+    position_from_yields_List
+    (supporting c.args.included.now c.args.self.now.by.excluded.now c.args.self.now.by.functional c.args.self.now.bundle.now c.args.self.now.facts c.args.asked)
+    c.position.new.self _ _ c.position.ensures.ran
+    (YieldsList-from_first (λ (g : Fact). g) facts_left (the_facts c.args.self.now) c.facts.ensures)
+    (λ g b q k. search (rules, tests))
+    ∙ support_found _ _ _ _ _ _

@@ -1,8 +1,9 @@
 use Rattle.std.proofs.Common.{rules, ◌≡◌, inl, ap, ◌∙◌, arith}
+use Rattle.std.specs.Prelude.{ℕ}
 use Rattle.bundle.specs.Told.{facts_left}
 use Rattle.bundle.specs.declared.facts.FactsOf.{FactsOf}
 use Rattle.bundle.proofs.Left.{facts_few}
-use Rattle.clashes.specs.Tally.{no_counts}
+use Rattle.clashes.specs.Tally.{no_counts, tallied}
 use Rattle.clean.proofs.OfSearch.{few_facts}
 use Rattle.clean.proofs.OfRows.{tally_small, row_partner_fits, marking_start, marking_in_row, marking_in_pair, marking_on, marking_ends}
 use Rattle.clean.proofs.cleaning.Cleaning.mark.Goals as goal
@@ -45,7 +46,7 @@ with-tally-requires c = tally_small _ _ _ _ c.loop-i.invariant.2.tally _ _ c.in-
 pub loop-i-preserved : goal.loop-i-preserved
 loop-i-preserved c =
     let steps = c.in-Some.ensures.steps in
-    let on = marking_on _ _ _ _ _ _ _ _ _ c.loop-i.invariant.2 _ _ steps.0 _ c.judge-judged.ensures _ _ c.mark.ensures c.partner.ensures _ c.with-tally.ensures _ steps.2 in
+    let on = marking_on _ _ _ _ _ _ _ _ _ c.loop-i.invariant.2 _ _ steps.0 _ c.judge-judged.ensures _ _ c.mark.ensures c.partner.ensures _ (c.with-tally.ensures ∙ ap (λ (m : ℕ). tallied c.loop-i.tally m) c.mark-in-loop-i.ensures) _ steps.2 in
     let few = few_facts c.args.self.now.bundle.now c.args.self.now.facts c.args.self.now.few in
     ((tt, tt, inl (omega (arith, few, on.tally.counted, on.place))), tt, rw steps.1 on)
 

@@ -5,8 +5,11 @@ use Rattle.std.proofs.lemmas.Iterator.Consumers.{nth_from_yields_List, YieldsLis
 use Rattle.site.specs.declared.fact.Fact.{Fact}
 use Rattle.bundle.specs.Bundle.{facts_of}
 use Rattle.bundle.specs.Told.{facts_left}
-use Rattle.operations.proofs.OfOperations.{none_at, some_at, ask_over, ask_done}
+use Rattle.operations.proofs.OfOperations.{none_at, some_at, ask_over, ask_past, ask_done}
 use Rattle.operations.proofs.files.Files.ask.Goals as goal
+
+pub returns-then-number-self : goal.returns-then-number-self
+returns-then-number-self c = rw c.of_call.ensures (ask_past _ _ _ _ c.args.self.now.accepted _ c.if-number-self.true)
 
 pub returns-in_err-fact : goal.returns-in_err-fact
 returns-in_err-fact c =
@@ -15,8 +18,8 @@ returns-in_err-fact c =
     nth_from_yields_List c.nth.result c.nth.new.self c.args.number c.nth.ensures.ran
     (YieldsList-from_first (λ (f : Fact). f) facts_left (facts_of c.args.self.now.bundle.now c.args.self.now.inputs.facts) c.new.ensures) in
     let is : c.nth.result ≡ None = grind arith in
-    let of : c.in_err-fact.field-0.0 ≡ c.of_call.result = grind arith in
-    rw (p.1, p.2, of, c.of_call.ensures) (ask_over _ _ _ _ c.args.self.now.accepted _ (none_at _ _ _ got is))
+    let of : c.in_err-fact.field-0.0 ≡ c.of_call-2.result = grind arith in
+    rw (p.1, p.2, of, c.of_call-2.ensures) (ask_over _ _ _ _ c.args.self.now.accepted _ (none_at _ _ _ got is))
 
 pub returns : goal.returns
 returns c =
