@@ -43,7 +43,7 @@ impl<'a> Iterator for FactsOf<'a> {
 
     ghost remaining = { item_count facts_left };
 
-    // Each fact is held against every fact by it: it is to be part of the loop that it is called in.
+    // Marking holds each fact against every fact: in its loop a step is to be no call.
     #[inline(always)]
     fn next(&mut self) -> Option<Fact> {
         if self.left == 0 {

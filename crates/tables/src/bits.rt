@@ -41,7 +41,7 @@ impl Table {
         }
     }
 
-    // A table is all its words, whatever was put into it. This only says so, to who has to know it.
+    // A table is 576 words, whatever was put into it. This does nothing but say so to a caller.
     pub fn whole(&self)
         ensures { length self.now ≡ 576 }
     {

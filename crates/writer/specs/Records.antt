@@ -14,7 +14,7 @@ use Rattle.bundle.specs.Bundle.{ascends, predicate_known, bundle_of}
 unfoldable pub room_for : ℕ → List ℕ → Answer (List ℕ)
 room_for room bytes = cond (leb (length bytes) room) (Ok bytes) (Err (refusal Room Call 0))
 
--- no predicate over 65,535 is declared, whatever the head, also one that no rule file gives: 64+j is a predicate's number only for j below this
+-- no predicate over 65,535 is declared, whatever the head, also one that no rule file gives: 64+j is at most 65,535 only for j below 65,472
 unfoldable pub within : Head → Head
 within h = record { concepts = h.concepts; roles = min h.roles (most_number - 63); rules = h.rules; start = h.start }
 

@@ -8,9 +8,9 @@ use number::{Answer, Fault, MOST, Refusal, Side};
 use rule::Head;
 use site::Fact;
 
-// The fault of a record, if it has one, after the one before it, by what the head says alone.
+// The fault of a record, if it has one, after the one before it, by what the head says.
 #[tactic(auto, unfolding(crate::specs::Records::record_fault))]
-fn fault_under(head: Head, last: Option<Fact>, fact: Fact) -> Option<Fault>
+fn record_fault(head: Head, last: Option<Fact>, fact: Fact) -> Option<Fault>
     ensures { result ≡ record_fault head last fact }
 {
     if !head.declared().has_predicate(fact.predicate) {
@@ -28,15 +28,15 @@ fn fault_under(head: Head, last: Option<Fact>, fact: Fact) -> Option<Fault>
     None
 }
 
-// The fault of a record: the caller's head may say any number of roles, and a predicate over every number is unknown all the same.
+// The same under any head: a caller's may say any number of roles, and a predicate over every number is unknown all the same.
 #[tactic(auto, using(crate::proofs::Judging::faults))]
-fn record_fault(head: Head, last: Option<Fact>, fact: Fact) -> Option<Fault>
+fn fault_of(head: Head, last: Option<Fact>, fact: Fact) -> Option<Fault>
     ensures { result ≡ record_fault (within head) last fact }
 {
     if MOST < fact.predicate {
         return Some(Fault::Unknown);
     }
-    fault_under(head, last, fact)
+    record_fault(head, last, fact)
 }
 
 // How many records there are, or the first fault, at its record's number.
@@ -46,7 +46,7 @@ pub fn judge_records<R: HasFact>(head: Head, records: &[R]) -> Answer<usize>
     let mut last = None;
     for (i, record) in records.iter().enumerate() {
         let fact = record.fact();
-        if let Some(fault) = record_fault(head, last, fact) {
+        if let Some(fault) = fault_of(head, last, fact) {
             return Err(Refusal::new(fault, Side::Call, i));
         }
         last = Some(fact);
