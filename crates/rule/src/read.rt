@@ -39,7 +39,8 @@ fn read_code(s: &[u8], head: Head, kind: Kind, at: usize) -> Answer<Read<u32>>
     )
 }
 
-// "A rule is its kind, then its codes"
+// "A rule is its kind, then its codes". Each walk over rules asks for another part of what is read: inlined, it reads no more than that.
+#[inline(always)]
 #[tactic(auto, unfolding(crate::specs::OneRule::rule_at))]
 pub fn rule_at(s: &[u8], head: Head, at: usize) -> Answer<Read<Rule>>
     ensures { rule_read result ≡ rule_at head s.now at }

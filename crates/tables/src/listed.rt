@@ -32,6 +32,7 @@ impl Iterator for Nodes {
     ghost remaining = { item_count (λ rest. rest) };
 
     #[tactic(auto, using(crate::proofs::Numbers::numbers_first, crate::proofs::Numbers::numbers_none))]
+    #[inline(always)]
     fn next(&mut self) -> Option<usize> {
         if let Some(x) = self.concepts.next() {
             return Some(x);
